@@ -1,0 +1,375 @@
+-- The whole tree: names, declarations and depths together.
+use mathlib.Core.Path.{_≡_, refl, sym, ap, subst, _∙_}
+use mathlib.Core.Bool.{Bool, true, false}
+use mathlib.Core.List.{List, [], _∷_}
+use mathlib.Core.Option.{Option, none, some}
+use Prim.Native.Nat.{ℕ, zero, suc, _+_, _-_, _≤_, _<_}
+use native.Mathlib.Omega.{arith}
+use lib.Dec.{ltb}
+use lib.ListN.{length, getD}
+use borrow.Author.Tests.{lt-ltb, le-ltb}
+use Rattle.penne.specs.Reader.{Counts, Cur, Got, got, refused, Reader, _>>=_, ret, num, below, such, many, listed, each, fits, plus, counting, nothing}
+use Rattle.penne.specs.Tree.{Spot, Decl, Tree}
+use Rattle.penne.specs.Read.{readNames, tabled, readTree, ended, decode, incoming, answered, readDecl, declHead, declOf, DeclKind, declKinds, declCounts, kConstant, kFunction, kFunctionHead, kStructure, kImport, kBadDecl, readConstant, readFunction, readFunctionHead, readStructure, readImport}
+use Rattle.tree.specs.declared.number.Read.{Read}
+use Rattle.tree.specs.declared.number.Read.the-variants.{Number, Refused}
+use Rattle.tree.specs.declared.counts.Counts as C
+use Rattle.tree.specs.declared.counts.Passed.{Passed}
+use Rattle.tree.specs.declared.counts.Passed.the-variants.{To}
+use Rattle.tree.specs.declared.counts.Passed.the-variants as P
+use Rattle.tree.specs.declared.script.Layout.{Layout}
+use Rattle.tree.specs.declared.script.Laid.{Laid}
+use Rattle.tree.specs.declared.script.Laid.the-variants as L
+use Rattle.tree.specs.declared.Verdict.{Verdict}
+use Rattle.tree.specs.declared.Verdict.the-variants as W
+use Rattle.tree.specs.Answers.{cursor, numberOf, endOf, forget, Gives, Reads, Ends, Skips, countsOf, passedOf, Passes}
+use Rattle.tree.specs.Names.{namesFrom, tableOf, Tables}
+use Rattle.tree.specs.Script.{refusalOf, refusal, verdictOf, start, LaidOut, Lays, notLaidBy, unlaidBy, endedBy, depthBy, IncomingDepths, AnsweredDepths}
+use Rattle.tree.proofs.Chain.{after, here, never, never′, reads, ends-number, ends-ret, ends-call, ends-halt, ends-tail, test-halt, test-passed, test-failed}
+use Rattle.tree.proofs.Fields.{goes, stops}
+use Rattle.tree.proofs.Counting.{forget-no, counting-no, counting-fits, counting-full}
+use Rattle.tree.proofs.Statements.{kind-value}
+
+-- BACK FROM AN ANSWER
+
+got-never : {X A : Type 0} {a : A} {c : Cur} {n p : ℕ} → _≡_ {A = Got A} (refused n p) (got a c) → X
+got-never e = let z : _≡_ {A = ℕ} 0 1 = cc in absurd (omega arith)
+
+got-value : {A : Type 0} {a b : A} {c d : Cur} → got a c ≡ got b d → a ≡ b
+got-value e = cc
+
+got-cursor : {A : Type 0} {a b : A} {c d : Cur} → got a c ≡ got b d → c ≡ d
+got-cursor e = cc
+
+bind-go : {A B X : Type 0} (f : A → Reader B) (s : List ℕ) (q : Got A) {b : B} {d : Cur} → after f s q ≡ got b d → ((a : A) (c : Cur) → q ≡ got a c → f a s c ≡ got b d → X) → X
+bind-go f s (got a c) e next = next a c refl e
+bind-go f s (refused i p) e next = got-never e
+
+bind-case : {A B X : Type 0} (m : Reader A) (f : A → Reader B) (s : List ℕ) (c : Cur) {b : B} {d : Cur} → (m >>= f) s c ≡ got b d → ((a : A) (c′ : Cur) → m s c ≡ got a c′ → f a s c′ ≡ got b d → X) → X
+unfolding _>>=_
+bind-case m f s c e next = bind-go f s (m s c) e next
+
+many-case : {A X : Type 0} (m : Reader A) (n : ℕ) (s : List ℕ) (c : Cur) {xs : List A} {d : Cur} → many m (suc n) s c ≡ got xs d → ((a : A) (c′ : Cur) (rest : List A) → m s c ≡ got a c′ → many m n s c′ ≡ got rest d → xs ≡ a ∷ rest → X) → X
+unfolding many ret
+many-case m n s c e next = bind-case m _ s c e λ a c₁ h e₁. bind-case (many m n) _ s c₁ e₁ λ rest c₂ h₂ e₂. next a c₁ rest h (h₂ ∙ ap (got rest) (got-cursor e₂)) (sym (got-value e₂))
+
+many-length : {A : Type 0} (m : Reader A) (n : ℕ) (s : List ℕ) (c : Cur) {xs : List A} {d : Cur} → many m n s c ≡ got xs d → length xs ≡ n
+unfolding many ret
+many-length m zero s c e = ap length (sym (got-value e))
+many-length m (suc n) s c e = many-case m n s c e λ a c₁ rest h₁ h₂ z. ap length z ∙ ap suc (many-length m n s c₁ h₂)
+
+-- DEPTHS AS THEY COME IN
+
+pub record Coming (s : List ℕ) (count at rest cur : ℕ) : Type 0 where
+  pub on : (r : Read) → ((ds : List (Decl Spot)) → length ds ≡ rest → Skips (each incoming ds) s cur r) → (ds : List (Decl Spot)) → length ds ≡ count → Skips (each incoming ds) s at r
+
+pub coming-start : {s : List ℕ} {count at : ℕ} → Coming s count at count at
+coming-start = record { on = λ r h. h }
+
+module _ {s : List ℕ} {count at rest cur : ℕ} (g : Coming s count at rest cur) where
+  module _ (z : rest ≡ 0 → ⊥) {m : Read} (h : Gives (below 1) s cur m) where
+    halts : {i p : ℕ} → m ≡ Refused i p → (ds : List (Decl Spot)) → length ds ≡ rest → Skips (each incoming ds) s cur m
+    unfolding each incoming
+    halts e [] q = absurd (z (sym q))
+    halts e (d ∷ ds) q = record { ends = λ names. ends-halt _ (ends-number (reads h)) e }
+
+    pub coming-halt : {i p : ℕ} → m ≡ Refused i p → IncomingDepths s count at m
+    coming-halt e = record { ends = g .on m (halts e) }
+
+    goes-on : {v b : ℕ} {r : Read} → m ≡ Number v b → ((ds : List (Decl Spot)) → length ds ≡ rest - 1 → Skips (each incoming ds) s b r) → (ds : List (Decl Spot)) → length ds ≡ rest → Skips (each incoming ds) s cur r
+    unfolding each incoming
+    goes-on e k [] q = absurd (z (sym q))
+    goes-on e k (d ∷ ds) q = record { ends = λ names. ends-call _ (ends-number (reads h)) e λ x. ends-tail (λ xs. x ∷ xs) (k ds (omega arith) .ends names) }
+
+    pub coming-more : {v b : ℕ} → m ≡ Number v b → Coming s count at (rest - 1) b
+    coming-more e = record { on = λ r k. g .on r (goes-on e k) }
+
+  empty : rest ≡ 0 → (ds : List (Decl Spot)) → length ds ≡ rest → Skips (each incoming ds) s cur (Number 0 cur)
+  unfolding each
+  empty z [] q = record { ends = λ names. ends-ret _ }
+  empty z (d ∷ ds) q = absurd (omega arith)
+
+  pub coming-done : rest ≡ 0 → IncomingDepths s count at (Number 0 cur)
+  coming-done z = record { ends = g .on _ (empty z) }
+
+-- DEPTHS AS ANSWERED
+
+-- every value that m reads is such
+pub record Yields {A : Type 0} (P : A → Type 0) (m : Reader A) : Type 0 where
+  pub all : (s : List ℕ) (c : Cur) (a : A) (d : Cur) → m s c ≡ got a d → P a
+
+yields-bind : {A B : Type 0} {P : B → Type 0} (m : Reader A) (f : A → Reader B) → ((a : A) → Yields P (f a)) → Yields P (m >>= f)
+yields-bind m f h = record { all = λ s c b d e. bind-case m f s c e λ a c′ _ e′. h a .all s c′ b d e′ }
+
+yields-ret : {A : Type 0} (P : A → Type 0) (a : A) → P a → Yields P (ret a)
+unfolding ret
+yields-ret P a h = record { all = λ s c b d e. subst P (got-value e) h }
+
+-- the depth of what was read goes by its kind
+abbrev Deep : DeclKind → Decl Spot → Type 0
+Deep k d = answered d ≡ depthBy k
+
+deep : (k : DeclKind) → Yields (Deep k) (declOf 63 k)
+unfolding declOf readConstant readFunction readFunctionHead readStructure readImport answered depthBy
+deep kConstant = yields-bind _ _ λ f. yields-bind _ _ λ p. yields-bind _ _ λ q. yields-bind _ _ λ i. yields-bind _ _ λ x. yields-bind _ _ λ t. yields-ret _ _ refl
+deep kFunction = yields-bind _ _ λ f. yields-bind _ _ λ p. yields-bind _ _ λ q. yields-bind _ _ λ i. yields-bind _ _ λ ps. yields-bind _ _ λ b. yields-bind _ _ λ t. yields-ret _ _ refl
+deep kFunctionHead = yields-bind _ _ λ f. yields-bind _ _ λ p. yields-bind _ _ λ q. yields-bind _ _ λ i. yields-bind _ _ λ ps. yields-bind _ _ λ t. yields-ret _ _ refl
+deep kStructure = yields-bind _ _ λ f. yields-bind _ _ λ p. yields-bind _ _ λ i. yields-bind _ _ λ ms. yields-bind _ _ λ t. yields-ret _ _ refl
+deep kImport = yields-bind _ _ λ b. yields-bind _ _ λ p. yields-ret _ _ refl
+deep kBadDecl = yields-bind _ _ λ z. yields-ret _ _ refl
+
+-- the kind that counting hands on is the one that was read
+counted-kind : {A : Type 0} (f : A → Counts) (m : Reader A) (s : List ℕ) (c : Cur) {a b : A} {next d : Cur} → m s c ≡ got a next → counting f m s c ≡ got b d → a ≡ b
+counted-kind f m s c {a} {b} {next} e h = (elim (fits (plus (next .counts) (f a))) as (λ t. fits (plus (next .counts) (f a)) ≡ t → a ≡ b) [
+  | true ↦ λ z. got-value (sym (counting-fits f m s c e z) ∙ h)
+  | false ↦ λ z. got-never (sym (counting-full f m s c e z) ∙ h)
+]) refl
+
+decl-depth : {s : List ℕ} (names : ℕ) {at : ℕ} (k : Counts) {m : Read} {v n : ℕ} {d : Decl Spot} {c : Cur} → Gives (below 6) s at m → m ≡ Number v n → readDecl s (cursor at names k) ≡ got d c → answered d ≡ depthBy (getD declKinds v kBadDecl)
+unfolding readDecl declHead
+decl-depth {s} names {at} k {d = d} {c} g e h = bind-case (counting declCounts declHead) (declOf 63) s (cursor at names k) h λ kd c₁ h₁ h₂.
+    let z = counted-kind declCounts declHead s (cursor at names k) (kind-value _ 6 g k e) h₁ in
+    subst (λ (y : DeclKind). answered d ≡ depthBy y) (sym z) (deep kd .all s c₁ d c h₂)
+
+-- the declarations are read again beside their depths
+pub record Again (s : List ℕ) (l : Layout) (rest declared : ℕ) (k : C.Counts) (cur : ℕ) : Type 0 where
+  pub on : (r : Read) → ((ds : List (Decl Spot)) (c : Cur) → many readDecl rest s (cursor declared (l .names) (countsOf k)) ≡ got ds c → Ends (each answered ds) s (l .names) cur r) →
+      (ds : List (Decl Spot)) (c : Cur) → many readDecl (l .count) s (cursor (l .first) (l .names) nothing) ≡ got ds c → Ends (each answered ds) s (l .names) (l .depths) r
+
+pub again-start : (s : List ℕ) (l : Layout) → Again s l (l .count) (l .first) (record { containers = 0; functions = 0; entries = 0; statements = 0 }) (l .depths)
+unfolding nothing
+again-start s l = record { on = λ r h. h }
+
+module _ {s : List ℕ} {l : Layout} {rest declared : ℕ} {k : C.Counts} {cur : ℕ} (g : Again s l rest declared k cur) where
+  abbrev here-c : Cur
+  here-c = cursor declared (l .names) (countsOf k)
+
+  -- what the declaration there is, and what is left behind it
+  first-case : {X : Type 0} (n : ℕ) → rest ≡ n → (n ≡ 0 → ⊥) → {ds : List (Decl Spot)} {c : Cur} → many readDecl rest s here-c ≡ got ds c →
+      ((d : Decl Spot) (c₁ : Cur) (tail : List (Decl Spot)) → readDecl s here-c ≡ got d c₁ → many readDecl (n - 1) s c₁ ≡ got tail c → ds ≡ d ∷ tail → X) → X
+  first-case zero e z h next = absurd (z refl)
+  first-case (suc n) e z {ds} {c} h next =
+      let q : n ≡ suc n - 1 = omega arith in
+      many-case readDecl n s here-c (sym (ap (λ (j : ℕ). many readDecl j s here-c) e) ∙ h) λ d c₁ tail h₁ h₂ w.
+      next d c₁ tail h₁ (subst (λ (j : ℕ). many readDecl j s c₁ ≡ got tail c) q h₂) w
+
+  module _ (z : rest ≡ 0 → ⊥) where
+    -- a declaration that was read once is not refused
+    pub again-never : {r : Read} {m : Read} {i p : ℕ} → Gives (below 6) s declared m → m ≡ Refused i p → AnsweredDepths s l r
+    unfolding readDecl declHead
+    again-never {r} {m} {i} {p} h e = record {
+      ends = g .on r λ ds c q. first-case rest refl z q λ d c₁ tail h₁ h₂ w.
+          bind-case (counting declCounts declHead) (declOf 63) s here-c h₁ λ kd c₂ h₃ h₄. got-never (sym (counting-no declCounts declHead s here-c (stops _ (reads h) (countsOf k) e)) ∙ h₃);
+    }
+
+    module _ {m : Read} {v n : ℕ} (h : Gives (below 6) s declared m) (e : m ≡ Number v n) {one : Passed} (o : Passes readDecl s (l .names) k declared one) where
+      pub again-not : {r : Read} {i p : ℕ} → one ≡ P.Refused i p → AnsweredDepths s l r
+      unfolding passedOf forget
+      again-not {r} t = record {
+        ends = g .on r λ ds c q. first-case rest refl z q λ d c₁ tail h₁ h₂ w.
+            never′ (sym (ap (passedOf (l .names)) t) ∙ o .is ∙ ap forget h₁);
+      }
+
+      module _ {b : ℕ} {more : C.Counts} (t : one ≡ To b more) {x : Read} (y : Gives (depthBy (getD declKinds v kBadDecl)) s cur x) where
+        depth-of : {d : Decl Spot} {c : Cur} → readDecl s here-c ≡ got d c → Reads (answered d) s (l .names) cur x
+        depth-of h₁ = subst (λ (m : Reader ℕ). Reads m s (l .names) cur x) (sym (decl-depth (l .names) (countsOf k) h e h₁)) (reads y)
+
+        pub again-halt : {i p : ℕ} → x ≡ Refused i p → AnsweredDepths s l x
+        unfolding each
+        again-halt u = record {
+          ends = g .on x λ ds c q. first-case rest refl z q λ d c₁ tail h₁ h₂ w.
+              subst (λ (xs : List (Decl Spot)). Ends (each answered xs) s (l .names) cur x) (sym w) (ends-halt _ (ends-number (depth-of h₁)) u);
+        }
+
+        behind : {d : Decl Spot} {c : Cur} → readDecl s here-c ≡ got d c → cursor b (l .names) (countsOf more) ≡ c
+        unfolding passedOf forget
+        behind h₁ = here (sym (ap (passedOf (l .names)) t) ∙ o .is ∙ ap forget h₁)
+
+        pub again-more : {f w : ℕ} → x ≡ Number w f → Again s l (rest - 1) b more f
+        unfolding each
+        again-more {f} u = record {
+          on = λ r next. g .on r λ ds c q. first-case rest refl z q λ d c₁ tail h₁ h₂ w.
+              subst (λ (xs : List (Decl Spot)). Ends (each answered xs) s (l .names) cur r) (sym w)
+              (ends-call _ (ends-number (depth-of h₁)) u λ a. ends-tail (λ hs. a ∷ hs) (next tail c (subst (λ (c₂ : Cur). many readDecl (rest - 1) s c₂ ≡ got tail c) (sym (behind h₁)) h₂)));
+        }
+
+  pub again-done : rest ≡ 0 → AnsweredDepths s l (Number 0 cur)
+  unfolding each many ret
+  again-done z = record {
+    ends = g .on _ λ ds c q.
+        subst (λ (xs : List (Decl Spot)). Ends (each answered xs) s (l .names) cur (Number 0 cur)) (got-value (sym (ap (λ (j : ℕ). many readDecl j s here-c) z) ∙ q)) (ends-ret _);
+  }
+
+-- THE LAYOUT
+
+pub not-laid-no : {r : Read} {i p : ℕ} → r ≡ Refused i p → notLaidBy r ≡ L.Refused i p
+not-laid-no e = ap notLaidBy e
+
+laid-not : {X : Type 0} {l : Layout} {n p : ℕ} → L.Refused n p ≡ L.Out l → X
+laid-not e = let z : _≡_ {A = ℕ} 0 1 = cc in absurd (omega arith)
+
+laid-out-not : {X : Type 0} {l : Layout} {n p : ℕ} → L.Out l ≡ L.Refused n p → X
+laid-out-not e = laid-not (sym e)
+
+laid-same : {n p m q : ℕ} → L.Refused n p ≡ L.Refused m q → (n ≡ m) × (p ≡ q)
+laid-same e = (cc, cc)
+
+out-same : {l k : Layout} → L.Out l ≡ L.Out k → l ≡ k
+out-same e = cc
+
+-- a refusal before the depths
+refuses : {s : List ℕ} {x : Laid} {i p : ℕ} → x ≡ L.Refused i p → ((depth : Decl Spot → Reader ℕ) → readTree depth s start ≡ refused i p) → Lays s x
+refuses {s} {x} {i} {p} e h = record {
+  out = λ l q. laid-not (sym e ∙ q);
+  not = λ n r q depth. let w = laid-same (sym e ∙ q) in subst (λ (j : ℕ). readTree depth s start ≡ refused n j) (w .1) (subst (λ (j : ℕ). readTree depth s start ≡ refused j p) (w .0) (h depth));
+}
+
+-- the rest of the tree, one part after another
+module _ (depth : Decl Spot → Reader ℕ) where
+  abbrev depths-of : List (List ℕ) → List (Decl Spot) → Reader (Tree Spot)
+  depths-of ns ds = each depth ds >>= λ hs. ret (record { names = ns; decls = ds; depths = hs })
+
+  abbrev decls-of : ℕ → List (List ℕ) → Reader (Tree Spot)
+  decls-of n ns = tabled n >>= λ _. listed readDecl >>= λ ds. depths-of ns ds
+
+  abbrev names-of : ℕ → Reader (Tree Spot)
+  names-of n = readNames n [] >>= λ ns. decls-of n ns
+
+forget-got : {A : Type 0} (q : Got A) {c : Cur} → got tt c ≡ forget q → (a : A) × (q ≡ got a c)
+unfolding forget
+forget-got (got a d) e = (a, ap (got a) (sym (here e)))
+forget-got (refused i p) e = never e
+
+module _ {s : List ℕ} {m₁ : Read} (g₁ : Gives num s 0 m₁) where
+  abbrev few : ℕ → Cur → Bool
+  few n _ = ltb n 1025
+
+  pub names-unread : {x : Laid} {i p : ℕ} → m₁ ≡ Refused i p → x ≡ notLaidBy m₁ → Lays s x
+  unfolding readTree
+  names-unread e h = refuses (h ∙ not-laid-no e) λ depth. stops _ (test-halt few 8 (reads g₁) e) nothing e
+
+  module _ {n a : ℕ} (e₁ : m₁ ≡ Number n a) where
+    pub names-many : 1024 < n → Lays s (L.Refused 8 0)
+    unfolding readTree
+    names-many h = refuses refl λ depth. stops _ (test-failed few 8 (reads g₁) e₁ λ c _. le-ltb n 1025 (omega arith)) nothing refl
+
+    module _ (h₁ : n ≤ 1024) {m₂ : Read} (g₂ : Tables n s a m₂) where
+      named : (depth : Decl Spot → Reader ℕ) → readTree depth s start ≡ names-of depth n s (cursor a 0 nothing)
+      unfolding readTree
+      named depth = goes _ (test-passed few 8 (reads g₁) e₁ λ c _. lt-ltb n 1025 (omega arith)) nothing refl
+
+      pub table-unread : {x : Laid} {i p : ℕ} → m₂ ≡ Refused i p → x ≡ notLaidBy m₂ → Lays s x
+      unfolding _>>=_ tableOf
+      table-unread e h = refuses (h ∙ not-laid-no e) λ depth. named depth ∙ ap (after (decls-of depth n) s) (sym (g₂ .is nothing) ∙ ap (tableOf n s a nothing) e)
+
+      module _ {v₂ b : ℕ} (e₂ : m₂ ≡ Number v₂ b) {m₃ : Read} (g₃ : Gives num s b m₃) where
+        tabled-on : (depth : Decl Spot → Reader ℕ) → readTree depth s start ≡ (listed readDecl >>= depths-of depth (namesFrom n s a)) s (cursor b n nothing)
+        unfolding _>>=_ tableOf tabled
+        tabled-on depth = named depth ∙ ap (after (decls-of depth n) s) (sym (g₂ .is nothing) ∙ ap (tableOf n s a nothing) e₂)
+
+        pub count-unread : {x : Laid} {i p : ℕ} → m₃ ≡ Refused i p → x ≡ notLaidBy m₃ → Lays s x
+        unfolding _>>=_ listed
+        count-unread e h = refuses (h ∙ not-laid-no e) λ depth. tabled-on depth ∙ ap (after (depths-of depth (namesFrom n s a)) s) (stops (many readDecl) (reads g₃) nothing e)
+
+        module _ {m c : ℕ} (e₃ : m₃ ≡ Number m c) {k : C.Counts} (z : countsOf k ≡ nothing) {one : Passed} (g₄ : Passes (many readDecl m) s n k c one) where
+          listed-on : (depth : Decl Spot → Reader ℕ) → readTree depth s start ≡ after (depths-of depth (namesFrom n s a)) s (many readDecl m s (cursor c n nothing))
+          unfolding _>>=_ listed
+          listed-on depth = tabled-on depth ∙ ap (after (depths-of depth (namesFrom n s a)) s) (goes (many readDecl) (reads g₃) nothing e₃)
+
+          declared-is : passedOf n one ≡ forget (many readDecl m s (cursor c n nothing))
+          declared-is = g₄ .is ∙ ap (λ (w : Counts). forget (many readDecl m s (cursor c n w))) z
+
+          pub declared-not : {i p : ℕ} → one ≡ P.Refused i p → Lays s (L.Refused i p)
+          unfolding passedOf
+          declared-not e = refuses refl λ depth. listed-on depth ∙ ap (after (depths-of depth (namesFrom n s a)) s) (forget-no _ (sym declared-is ∙ ap (passedOf n) e))
+
+          pub declared-all : {d : ℕ} {q : C.Counts} → one ≡ To d q → Lays s (L.Out (record { names = n; count = m; first = c; depths = d }))
+          unfolding passedOf
+          declared-all {d} {q} e =
+              let w = forget-got (many readDecl m s (cursor c n nothing)) (sym (ap (passedOf n) e) ∙ declared-is) in
+              let out₀ : LaidOut s (record { names = n; count = m; first = c; depths = d }) = record {
+                table = namesFrom n s a;
+                decls = w .0;
+                counts = countsOf q;
+                read = w .1;
+                whole = λ depth. listed-on depth ∙ ap (after (depths-of depth (namesFrom n s a)) s) (w .1);
+              } in
+              record { out = λ l h. subst (λ (y : Layout). LaidOut s y) (out-same h) out₀; not = λ i p h. laid-out-not h }
+
+-- THE VERDICT
+
+long-first : (depth : Decl Spot → Reader ℕ) (s : List ℕ) → 65535 < length s → some (1, 0) ≡ refusal depth s
+unfolding refusal
+long-first depth s h = sym (rw (lt-ltb 65535 (length s) h, refusal))
+
+pub verdict-long : (depth : Decl Spot → Reader ℕ) (s : List ℕ) → 65535 < length s → verdictOf (W.Refused 1 0) ≡ refusal depth s
+unfolding verdictOf
+verdict-long depth s h = long-first depth s h
+
+short-on : (depth : Decl Spot → Reader ℕ) (s : List ℕ) → length s ≤ 65535 → refusal depth s ≡ refusalOf (decode depth s)
+unfolding refusal
+short-on depth s h = rw (le-ltb 65535 (length s) h, refusal)
+
+pub verdict-unlaid : (depth : Decl Spot → Reader ℕ) {s : List ℕ} {x : Laid} {y : Verdict} {i p : ℕ} → length s ≤ 65535 → Lays s x → x ≡ L.Refused i p → y ≡ unlaidBy x → verdictOf y ≡ refusal depth s
+unfolding verdictOf decode ended refusalOf
+verdict-unlaid depth {s} {i = i} {p} h g e z = ap verdictOf (z ∙ ap unlaidBy e) ∙ sym (short-on depth s h ∙ ap (λ (q : Got (Tree Spot)). refusalOf (ended s q)) (g .not i p e depth))
+
+-- behind the depths nothing may be left
+same-end : (x : Tree Spot) (s : List ℕ) (v n names : ℕ) (k : Counts) → verdictOf (endedBy s (Number v n)) ≡ refusalOf (ended s (got x (cursor n names k)))
+unfolding verdictOf endedBy refusalOf ended
+same-end x s v n names k = (elim (ltb n (length s)) as (λ t. ltb n (length s) ≡ t → verdictOf (endedBy s (Number v n)) ≡ refusalOf (ended s (got x (cursor n names k)))) [
+  | true ↦ λ z. rw (z, endedBy, ended)
+  | false ↦ λ z. rw (z, endedBy, ended)
+]) refl
+
+tail-go : (ns : List (List ℕ)) (ds : List (Decl Spot)) (s : List ℕ) (names : ℕ) (k : Counts) (r : Read) (q : Got (List ℕ)) → endOf names k r ≡ forget q →
+    verdictOf (endedBy s r) ≡ refusalOf {A = Tree Spot} (ended s (after (λ hs. ret (record { names = ns; decls = ds; depths = hs })) s q))
+unfolding endOf forget verdictOf endedBy refusalOf ended ret
+tail-go ns ds s names k (Number v n) (got hs c) e =
+    let x : Tree Spot = record { names = ns; decls = ds; depths = hs } in
+    subst (λ (d : Cur). verdictOf (endedBy s (Number v n)) ≡ refusalOf (ended s (got x d))) (here e) (same-end x s v n names k)
+tail-go ns ds s names k (Number v n) (refused i p) e = never e
+tail-go ns ds s names k (Refused i p) (got hs c) e = never′ e
+tail-go ns ds s names k (Refused i p) (refused j q) e = ap (refusalOf {A = Unit {0}}) e
+
+module _ (depth : Decl Spot → Reader ℕ) {s : List ℕ} (h : length s ≤ 65535) {l : Layout} (o : LaidOut s l) {r : Read} (g : Ends (each depth (o .decls)) s (l .names) (l .depths) r) {y : Verdict} (z : y ≡ endedBy s r) where
+  ends-so : verdictOf y ≡ refusal depth s
+  unfolding decode _>>=_
+  ends-so = ap verdictOf z ∙ tail-go (o .table) (o .decls) s (l .names) (o .counts) r _ (g .is (o .counts)) ∙ sym (short-on depth s h ∙ ap (λ (q : Got (Tree Spot)). refusalOf (ended s q)) (o .whole depth))
+
+pub verdict-incoming : {s : List ℕ} {x : Laid} {l : Layout} {r : Read} {y : Verdict} → length s ≤ 65535 → Lays s x → x ≡ L.Out l → IncomingDepths s (l .count) (l .depths) r → y ≡ endedBy s r → verdictOf y ≡ refusal incoming s
+verdict-incoming {l = l} h g e d z =
+    let o = g .out l e in
+    ends-so incoming h o (d .ends (o .decls) (many-length readDecl (l .count) _ _ (o .read)) .ends (l .names)) z
+
+pub verdict-answered : {s : List ℕ} {x : Laid} {l : Layout} {r : Read} {y : Verdict} → length s ≤ 65535 → Lays s x → x ≡ L.Out l → AnsweredDepths s l r → y ≡ endedBy s r → verdictOf y ≡ refusal answered s
+verdict-answered {l = l} h g e d z =
+    let o = g .out l e in
+    ends-so answered h o (d .ends (o .decls) _ (o .read)) z
+
+-- row 10's two ways
+pub ended-left : (s : List ℕ) {r : Read} {v n : ℕ} → r ≡ Number v n → n < length s → W.Refused 10 n ≡ endedBy s r
+unfolding endedBy
+ended-left s {n = n} e h = sym (ap (endedBy s) e ∙ rw (lt-ltb n (length s) h, endedBy))
+
+pub ended-all : (s : List ℕ) {r : Read} {v n : ℕ} → r ≡ Number v n → length s ≤ n → W.Passes ≡ endedBy s r
+unfolding endedBy
+ended-all s {n = n} e h = sym (ap (endedBy s) e ∙ rw (le-ltb n (length s) h, endedBy))
+
+pub ended-no : (s : List ℕ) {r : Read} {i p : ℕ} → r ≡ Refused i p → W.Refused i p ≡ endedBy s r
+unfolding endedBy
+ended-no s e = sym (ap (endedBy s) e)
+
+-- the kinds that have a depth
+pub depth-rest : (k : ℕ) → (k ≡ 0 → ⊥) → (k ≡ 3 → ⊥) → depthBy (getD declKinds k kBadDecl) ≡ below 1
+unfolding depthBy declKinds
+depth-rest zero h₀ h₃ = absurd (h₀ refl)
+depth-rest (suc zero) h₀ h₃ = refl
+depth-rest (suc (suc zero)) h₀ h₃ = refl
+depth-rest (suc (suc (suc zero))) h₀ h₃ = absurd (h₃ refl)
+depth-rest (suc (suc (suc (suc zero)))) h₀ h₃ = refl
+depth-rest (suc (suc (suc (suc (suc zero))))) h₀ h₃ = refl
+depth-rest (suc (suc (suc (suc (suc (suc k)))))) h₀ h₃ = refl
+
+pub gives-same : {m m′ : Reader ℕ} {s : List ℕ} {at : ℕ} {r : Read} → m ≡ m′ → Gives m′ s at r → Gives m s at r
+gives-same {s = s} {at} {r} e h = subst (λ (m : Reader ℕ). Gives m s at r) (sym e) h

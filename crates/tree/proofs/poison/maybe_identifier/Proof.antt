@@ -1,0 +1,18 @@
+-- `tree::poison/maybe_identifier` meets its contract. Assumes nothing.
+use borrow.Author.Needs.{needs}
+use native.Mathlib.Omega.{arith}
+use Rattle.tree.proofs.Chain.{maybe-halt, maybe-ok, maybe-err}
+use Rattle.tree.proofs.poison.maybe_identifier.Statement.{statement}
+use Rattle.tree.proofs.poison.maybe_identifier.Tie as tie
+
+returns : tie.Need-returns
+returns c = maybe-halt (c .before .before .below .ensures) _ (c .enum-told .given .1)
+
+returns-2 : tie.Need-returns-2
+returns-2 c = maybe-ok (c .before .before .before .before .before .below .ensures) _ (c .before .before .before .tag .given .1) (c .before .if1 .taken) (c .past-identifier .ensures)
+
+returns-3 : tie.Need-returns-3
+returns-3 c = maybe-err (c .before .before .before .before .before .below .ensures) _ (c .before .before .before .tag .given .1) (c .before .if1 .left) (c .poison .ensures)
+
+pub maybe-identifier-spec : {M : Type 1} → statement M
+maybe-identifier-spec = tie.close (tie.spec (λ c κs. search needs) (λ c. search needs) (λ c. search needs) returns (λ c κs. search needs) returns-2 (λ c κs. search needs) returns-3)

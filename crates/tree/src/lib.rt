@@ -1,0 +1,80 @@
+// The script tree, read and not kept: where each part ends, or the refusal that document 01's table gives.
+pub mod number; // numbers, and numbers below a limit
+pub mod field; // names, identifiers, bytes, runs of places
+pub mod poison; // poisons, by the table of their fields
+pub mod value_type; // types
+pub mod node; // expressions, references, steps
+pub mod counts; // what row 8 counts
+pub mod statement; // statements and bodies
+pub mod declaration; // declarations
+pub mod name_table; // the table of names, and parts of the tree compared
+pub mod script; // names, declarations and depths together
+
+use number::Read;
+use script::Laid;
+use script::answered_depths;
+use script::incoming_depths;
+use script::lay_out;
+ghost use mathlib.Core.Path.{_≡_};
+ghost use Rattle.penne.specs.Read.{incoming, answered};
+ghost use Rattle.tree.specs.Script.{verdictOf, refusal, unlaidBy, endedBy};
+
+pub enum Verdict {
+    Passes,
+    Refused(u32, usize),
+}
+
+// The tree as it comes in: every depth is 0.
+pub fn incoming(tree: &[u8]) -> Verdict
+    ensures { λ r. ⌜ verdictOf r ≡ refusal incoming (now (tree .entry)) ⌝ }
+{
+    if 65535 < tree.len() {
+        return Verdict::Refused(1, 0);
+    }
+    let laid = lay_out(tree);
+    let Laid::Out(l) = laid else {
+        return unlaid(laid);
+    };
+    let count = l.count;
+    let at = l.depths;
+    ended(tree, incoming_depths(tree, count, at))
+}
+
+// The tree as an answer has it: constants and structures may have any depth.
+pub fn answered(tree: &[u8]) -> Verdict
+    ensures { λ r. ⌜ verdictOf r ≡ refusal answered (now (tree .entry)) ⌝ }
+{
+    if 65535 < tree.len() {
+        return Verdict::Refused(1, 0);
+    }
+    let laid = lay_out(tree);
+    let Laid::Out(l) = laid else {
+        return unlaid(laid);
+    };
+    ended(tree, answered_depths(tree, l))
+}
+
+fn unlaid(laid: Laid) -> Verdict
+    ensures { λ r. ⌜ r ≡ unlaidBy laid ⌝ }
+{
+    match laid {
+        Laid::Refused(number, place) => Verdict::Refused(number, place),
+        Laid::Out(_) => Verdict::Passes,
+    }
+}
+
+// Row 10: nothing is left behind the depths.
+fn ended(tree: &[u8], depths: Read) -> Verdict
+    ensures { λ r. ⌜ r ≡ endedBy (now (tree .entry)) depths ⌝ }
+{
+    match depths {
+        Read::Refused(number, place) => Verdict::Refused(number, place),
+        Read::Number(_, at) => {
+            if at < tree.len() {
+                Verdict::Refused(10, at)
+            } else {
+                Verdict::Passes
+            }
+        }
+    }
+}
