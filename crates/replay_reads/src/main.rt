@@ -1,5 +1,6 @@
 // Replays verdicts on trees that another reader gave. A line is a refusal's number, its place and the tree in
-// hexadecimal digits, or `-` for an empty tree; a tree that passes has number 0 and place 0.
+// hexadecimal digits, or `-` for an empty tree; a tree that passes has number 0 and place 0. A line that begins
+// with `a` is about a tree that is read as an answer has it, any other about one that comes in.
 // Prints a line for each case that differs, then how many cases there were and how many differed.
 use libc::STDOUT_FILENO;
 use tree::Verdict;
@@ -12,6 +13,7 @@ struct Replay {
     place: u32,
     length: usize,
     half: bool,
+    answered: bool,
     high: u8,
     cases: u32,
     differ: u32,
@@ -91,6 +93,13 @@ fn print_case(number: u32, name: &[u8], wanted: u32, verdict: Verdict) {
     io::write_all(STDOUT_FILENO, b"\n");
 }
 
+fn read(tree: &[u8], answered: bool) -> Verdict {
+    if answered {
+        return tree::answered(tree);
+    }
+    tree::incoming(tree)
+}
+
 // The end of a line: the tree is read, and the verdict compared.
 fn compared(r: Replay, tree: &[u8]) -> Replay {
     let mut next = r;
@@ -100,7 +109,8 @@ fn compared(r: Replay, tree: &[u8]) -> Replay {
     next.place = 0;
     next.length = 0;
     next.half = false;
-    let verdict = tree::incoming(bytes_at(tree, 0, r.length));
+    next.answered = false;
+    let verdict = read(bytes_at(tree, 0, r.length), r.answered);
     if number_of(verdict) != r.number {
         print_case(next.cases, b": wanted number ", r.number, verdict);
         next.differ = one_more(r.differ);
@@ -122,6 +132,12 @@ fn step(r: Replay, tree: &mut [u8], byte: u8) -> Replay {
     if byte == 32 {
         next.field = one_more(r.field);
         return next;
+    }
+    if byte == 97 {
+        if r.field == 0 {
+            next.answered = true;
+            return next;
+        }
     }
     if r.field == 0 {
         next.number = with_digit(r.number, byte);
@@ -156,6 +172,7 @@ fn main() {
         place: 0,
         length: 0,
         half: false,
+        answered: false,
         high: 0,
         cases: 0,
         differ: 0,

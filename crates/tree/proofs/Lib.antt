@@ -7,3 +7,4 @@ pub mod Counting
 pub mod Statements
 pub mod Names
 pub mod Scripts
+pub mod Unique
