@@ -24,7 +24,7 @@ use Rattle.tree.specs.declared.Verdict.{Verdict}
 use Rattle.tree.specs.declared.Verdict.the-variants as W
 use Rattle.tree.specs.Answers.{cursor, numberOf, endOf, forget, Gives, Reads, Ends, Skips, countsOf, passedOf, Passes}
 use Rattle.tree.specs.Names.{namesFrom, tableOf, Tables}
-use Rattle.tree.specs.Script.{refusalOf, refusal, verdictOf, start, LaidOut, Lays, notLaidBy, unlaidBy, endedBy, depthBy, IncomingDepths, AnsweredDepths}
+use Rattle.tree.specs.Script.{refusalOf, refusal, verdictOf, start, LaidOut, Lays, notLaidBy, unlaidBy, endedBy, depthBy, IncomingDepths, AnsweredDepths, Decoded, AnsweredLayout}
 use Rattle.tree.proofs.Chain.{after, here, never, never′, reads, ends-number, ends-ret, ends-call, ends-halt, ends-tail, test-halt, test-passed, test-failed}
 use Rattle.tree.proofs.Fields.{goes, stops}
 use Rattle.tree.proofs.Counting.{forget-no, counting-no, counting-fits, counting-full}
@@ -32,20 +32,20 @@ use Rattle.tree.proofs.Statements.{kind-value}
 
 -- BACK FROM AN ANSWER
 
-got-never : {X A : Type 0} {a : A} {c : Cur} {n p : ℕ} → _≡_ {A = Got A} (refused n p) (got a c) → X
+pub got-never : {X A : Type 0} {a : A} {c : Cur} {n p : ℕ} → _≡_ {A = Got A} (refused n p) (got a c) → X
 got-never e = let z : _≡_ {A = ℕ} 0 1 = cc in absurd (omega arith)
 
-got-value : {A : Type 0} {a b : A} {c d : Cur} → got a c ≡ got b d → a ≡ b
+pub got-value : {A : Type 0} {a b : A} {c d : Cur} → got a c ≡ got b d → a ≡ b
 got-value e = cc
 
-got-cursor : {A : Type 0} {a b : A} {c d : Cur} → got a c ≡ got b d → c ≡ d
+pub got-cursor : {A : Type 0} {a b : A} {c d : Cur} → got a c ≡ got b d → c ≡ d
 got-cursor e = cc
 
 bind-go : {A B X : Type 0} (f : A → Reader B) (s : List ℕ) (q : Got A) {b : B} {d : Cur} → after f s q ≡ got b d → ((a : A) (c : Cur) → q ≡ got a c → f a s c ≡ got b d → X) → X
 bind-go f s (got a c) e next = next a c refl e
 bind-go f s (refused i p) e next = got-never e
 
-bind-case : {A B X : Type 0} (m : Reader A) (f : A → Reader B) (s : List ℕ) (c : Cur) {b : B} {d : Cur} → (m >>= f) s c ≡ got b d → ((a : A) (c′ : Cur) → m s c ≡ got a c′ → f a s c′ ≡ got b d → X) → X
+pub bind-case : {A B X : Type 0} (m : Reader A) (f : A → Reader B) (s : List ℕ) (c : Cur) {b : B} {d : Cur} → (m >>= f) s c ≡ got b d → ((a : A) (c′ : Cur) → m s c ≡ got a c′ → f a s c′ ≡ got b d → X) → X
 unfolding _>>=_
 bind-case m f s c e next = bind-go f s (m s c) e next
 
@@ -53,7 +53,7 @@ many-case : {A X : Type 0} (m : Reader A) (n : ℕ) (s : List ℕ) (c : Cur) {xs
 unfolding many ret
 many-case m n s c e next = bind-case m _ s c e λ a c₁ h e₁. bind-case (many m n) _ s c₁ e₁ λ rest c₂ h₂ e₂. next a c₁ rest h (h₂ ∙ ap (got rest) (got-cursor e₂)) (sym (got-value e₂))
 
-many-length : {A : Type 0} (m : Reader A) (n : ℕ) (s : List ℕ) (c : Cur) {xs : List A} {d : Cur} → many m n s c ≡ got xs d → length xs ≡ n
+pub many-length : {A : Type 0} (m : Reader A) (n : ℕ) (s : List ℕ) (c : Cur) {xs : List A} {d : Cur} → many m n s c ≡ got xs d → length xs ≡ n
 unfolding many ret
 many-length m zero s c e = ap length (sym (got-value e))
 many-length m (suc n) s c e = many-case m n s c e λ a c₁ rest h₁ h₂ z. ap length z ∙ ap suc (many-length m n s c₁ h₂)
@@ -342,10 +342,85 @@ verdict-incoming {l = l} h g e d z =
     let o = g .out l e in
     ends-so incoming h o (d .ends (o .decls) (many-length readDecl (l .count) _ _ (o .read)) .ends (l .names)) z
 
-pub verdict-answered : {s : List ℕ} {x : Laid} {l : Layout} {r : Read} {y : Verdict} → length s ≤ 65535 → Lays s x → x ≡ L.Out l → AnsweredDepths s l r → y ≡ endedBy s r → verdictOf y ≡ refusal answered s
-verdict-answered {l = l} h g e d z =
-    let o = g .out l e in
-    ends-so answered h o (d .ends (o .decls) _ (o .read)) z
+-- AN ANSWERED TREE
+
+pair-of : {a b c d : ℕ} → (a ≡ c) × (b ≡ d) → _≡_ {A = ℕ × ℕ} (a, b) (c, d)
+pair-of e = λ i. (e .0 i, e .1 i)
+
+pub answered-long : {s : List ℕ} → 65535 < length s → AnsweredLayout s (L.Refused 1 0)
+answered-long {s} h = record { out = λ l q. laid-not q; not = λ n p q. sym (long-first answered s h) ∙ ap some (pair-of (laid-same q)) }
+
+module _ {s : List ℕ} (h : length s ≤ 65535) {x : Laid} (g : Lays s x) where
+  pub answered-unlaid : {i p : ℕ} → x ≡ L.Refused i p → AnsweredLayout s x
+  unfolding decode ended refusalOf
+  answered-unlaid e = record { out = λ l q. laid-not (sym e ∙ q); not = λ n p q. short-on answered s h ∙ ap (λ (q : Got (Tree Spot)). refusalOf (ended s q)) (g .not n p q answered) }
+
+  module _ {l : Layout} (e : x ≡ L.Out l) {r : Read} (d : AnsweredDepths s l r) where
+    abbrev o : LaidOut s l
+    o = g .out l e
+
+    abbrev here-o : Cur
+    here-o = cursor (l .depths) (l .names) (o .counts)
+
+    ends-o : Ends (each answered (o .decls)) s (l .names) (l .depths) r
+    ends-o = d .ends (o .decls) _ (o .read)
+
+    pub answered-refused : {y : Laid} {i p : ℕ} → r ≡ Refused i p → y ≡ notLaidBy r → AnsweredLayout s y
+    unfolding decode ended refusalOf _>>=_ endOf
+    answered-refused {i = i} {p} q z =
+        let w : each answered (o .decls) s here-o ≡ refused i p = forget-no _ (sym (ends-o .is (o .counts)) ∙ ap (endOf (l .names) (o .counts)) q) in
+        record {
+          out = λ k t. laid-not (sym (z ∙ not-laid-no q) ∙ t);
+          not = λ n m t. short-on answered s h ∙ ap (λ (q : Got (Tree Spot)). refusalOf (ended s q)) (o .whole answered ∙ ap (after (λ hs. ret (record { names = o .table; decls = o .decls; depths = hs })) s) w) ∙ ap some (pair-of (laid-same (sym (z ∙ not-laid-no q) ∙ t)));
+        }
+
+    module _ {v n : ℕ} (q : r ≡ Number v n) where
+      reads-o : (hs : List ℕ) × (each answered (o .decls) s here-o ≡ got hs (cursor n (l .names) (o .counts)))
+      unfolding endOf
+      reads-o = forget-got _ (sym (ap (endOf (l .names) (o .counts)) q) ∙ ends-o .is (o .counts))
+
+      whole-o : readTree answered s start ≡ got (record { names = o .table; decls = o .decls; depths = reads-o .0 }) (cursor n (l .names) (o .counts))
+      unfolding _>>=_ ret
+      whole-o = o .whole answered ∙ ap (after (λ hs. ret (record { names = o .table; decls = o .decls; depths = hs })) s) (reads-o .1)
+
+      pub answered-left : n < length s → AnsweredLayout s (L.Refused 10 n)
+      unfolding decode ended refusalOf
+      answered-left t = record {
+        out = λ k z. laid-not z;
+        not = λ i p z. short-on answered s h ∙ ap (λ (q : Got (Tree Spot)). refusalOf (ended s q)) whole-o ∙ left-over _ t ∙ ap some (pair-of (laid-same z));
+      }
+        where
+          left-over : (y : Tree Spot) → n < length s → refusalOf (ended s (got y (cursor n (l .names) (o .counts)))) ≡ some (10, n)
+          left-over y t = rw (lt-ltb n (length s) t, ended)
+
+      pub answered-all : length s ≤ n → AnsweredLayout s (L.Out l)
+      unfolding decode ended
+      answered-all t = record {
+        not = λ i p z. laid-out-not z;
+        out = λ k z. subst (λ (y : Layout). Decoded s y) (out-same z) (record {
+          laid = o;
+          depths = reads-o .0;
+          end = cursor n (l .names) (o .counts);
+          read = reads-o .1;
+          short = le-ltb 65535 (length s) h;
+          decoded = ap (ended s) whole-o ∙ all-read _ t;
+        });
+      }
+        where
+          all-read : (y : Tree Spot) → length s ≤ n → ended s (got y (cursor n (l .names) (o .counts))) ≡ got y (cursor n (l .names) (o .counts))
+          all-read y t = rw (le-ltb n (length s) t, ended)
+
+passes-out : {s : List ℕ} {l : Layout} → Decoded s l → refusal answered s ≡ none
+unfolding refusal refusalOf
+passes-out {s} d = rw (d .short, refusal) (ap refusalOf (d .decoded))
+
+answered-go : {s : List ℕ} {y : Verdict} (x : Laid) → AnsweredLayout s x → y ≡ unlaidBy x → verdictOf y ≡ refusal answered s
+unfolding verdictOf
+answered-go (L.Out l) g z = ap verdictOf z ∙ sym (passes-out (g .out l refl))
+answered-go (L.Refused n p) g z = ap verdictOf z ∙ sym (g .not n p refl)
+
+pub verdict-answered : {s : List ℕ} {x : Laid} {y : Verdict} → AnsweredLayout s x → y ≡ unlaidBy x → verdictOf y ≡ refusal answered s
+verdict-answered {x = x} g z = answered-go x g z
 
 -- row 10's two ways
 pub ended-left : (s : List ℕ) {r : Read} {v n : ℕ} → r ≡ Number v n → n < length s → W.Refused 10 n ≡ endedBy s r

@@ -34,6 +34,7 @@ same-number (Number v n) (Number w m) e = λ i. Number (value e i) (place e i .a
   where
     value : {x y : ℕ} {c d : Cur} → got x c ≡ got y d → x ≡ y
     value e = cc
+
     place : {x y : ℕ} {c d : Cur} → got x c ≡ got y d → c ≡ d
     place e = cc
 same-number (Number v n) (Refused i p) e = let z : _≡_ {A = ℕ} 0 1 = cc in absurd (omega arith)

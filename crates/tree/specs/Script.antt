@@ -86,3 +86,17 @@ pub record IncomingDepths (s : List ℕ) (count at : ℕ) (r : Read) : Type 0 wh
 -- r is where the depths of the declarations end, as an answer has them, or their refusal
 pub record AnsweredDepths (s : List ℕ) (l : Layout) (r : Read) : Type 0 where
   pub ends : (ds : List (Decl Spot)) (c : Cur) → many readDecl (l .count) s (cursor (l .first) (l .names) nothing) ≡ got ds c → Ends (each answered ds) s (l .names) (l .depths) r
+
+-- s decodes as an answered tree, and its parts stand where l says
+pub record Decoded (s : List ℕ) (l : Layout) : Type 0 where
+  pub laid : LaidOut s l
+  pub depths : List ℕ
+  pub end : Cur
+  pub read : each answered (laid .decls) s (cursor (l .depths) (l .names) (laid .counts)) ≡ got depths end
+  pub short : ltb 65535 (length s) ≡ false
+  pub decoded : decode answered s ≡ got (record { names = laid .table; decls = laid .decls; depths = depths }) end
+
+-- r is where the parts of an answered tree stand, or its refusal
+pub record AnsweredLayout (s : List ℕ) (r : Laid) : Type 0 where
+  pub out : (l : Layout) → r ≡ L.Out l → Decoded s l
+  pub not : (n p : ℕ) → r ≡ L.Refused n p → refusal answered s ≡ some (n, p)

@@ -15,9 +15,10 @@ use script::Laid;
 use script::answered_depths;
 use script::incoming_depths;
 use script::lay_out;
+use script::not_laid;
 ghost use mathlib.Core.Path.{_≡_};
 ghost use Rattle.penne.specs.Read.{incoming, answered};
-ghost use Rattle.tree.specs.Script.{verdictOf, refusal, unlaidBy, endedBy};
+ghost use Rattle.tree.specs.Script.{verdictOf, refusal, unlaidBy, endedBy, AnsweredLayout};
 
 pub enum Verdict {
     Passes,
@@ -44,14 +45,28 @@ pub fn incoming(tree: &[u8]) -> Verdict
 pub fn answered(tree: &[u8]) -> Verdict
     ensures { λ r. ⌜ verdictOf r ≡ refusal answered (now (tree .entry)) ⌝ }
 {
+    unlaid(answered_layout(tree))
+}
+
+// The same, with where its parts stand.
+pub fn answered_layout(tree: &[u8]) -> Laid
+    ensures { λ r. ⌜ AnsweredLayout (now (tree .entry)) r ⌝ }
+{
     if 65535 < tree.len() {
-        return Verdict::Refused(1, 0);
+        return Laid::Refused(1, 0);
     }
     let laid = lay_out(tree);
     let Laid::Out(l) = laid else {
-        return unlaid(laid);
+        return laid;
     };
-    ended(tree, answered_depths(tree, l))
+    let depths = answered_depths(tree, l);
+    let Read::Number(_, at) = depths else {
+        return not_laid(depths);
+    };
+    if at < tree.len() {
+        return Laid::Refused(10, at);
+    }
+    Laid::Out(l)
 }
 
 fn unlaid(laid: Laid) -> Verdict

@@ -68,7 +68,8 @@ pub fn lay_out(tree: &[u8]) -> Laid
     }
 }
 
-fn not_laid(r: Read) -> Laid
+// A refusal passed on.
+pub fn not_laid(r: Read) -> Laid
     ensures { λ x. ⌜ x ≡ notLaidBy r ⌝ }
 {
     match r {

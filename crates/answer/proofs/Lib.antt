@@ -1,0 +1,10 @@
+pub mod Lists
+pub mod Laid
+pub mod Groups
+pub mod NumberSteps
+pub mod Chain
+pub mod Copying
+pub mod Said
+pub mod Spelling
+pub mod Runs
+pub mod Fields

@@ -1,0 +1,2 @@
+pub mod Out
+pub mod Parts

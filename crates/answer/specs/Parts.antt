@@ -1,0 +1,33 @@
+-- The bytes of what is written, over numbers alone.
+use Prim.Native.Nat.{ℕ, zero, suc, _-_}
+use mathlib.Core.List.{List, [], _++_}
+use mathlib.Core.Bool.{true, false}
+use lib.ListN.{getD, take, drop}
+use lib.Dec.{ltb}
+use Rattle.penne.specs.Reader.{got, refused, num, nothing}
+use Rattle.penne.specs.Write.{numB, eachB}
+use Rattle.tree.specs.Answers.{cursor, poisonNames, poisonPlaces}
+
+-- an identifier's bytes
+unfoldable pub identifierB : (name place id authority : ℕ) → List ℕ
+identifierB name place id authority = numB name ++ (numB place ++ (numB id ++ numB authority))
+
+-- a poison's bytes: of the names and places as many as a poison of that kind has
+unfoldable pub poisonedB : (kind : ℕ) → (names places : List ℕ) → List ℕ
+poisonedB kind names places = numB kind ++ (eachB numB (take (getD poisonNames kind 0) names) ++ eachB numB (take (getD poisonPlaces kind 0) places))
+
+-- the bytes of s from `from` to `to`, as far as it has them
+unfoldable pub part : (s : List ℕ) → (from to : ℕ) → List ℕ
+part s from to = take (to - from) (drop from s)
+
+-- at most n numbers of s from `at` to `to`, each in its shortest form, as far as they can be read
+unfoldable pub renumberedBy : (n : ℕ) → (s : List ℕ) → (at to : ℕ) → List ℕ
+renumberedBy zero s at to = []
+renumberedBy (suc n) s at to = elim (ltb at to) [
+  | false ↦ []
+  | true ↦ elim (num s (cursor at 0 nothing)) [ got v next ↦ numB v ++ renumberedBy n s (next .at) to | refused _ _ ↦ [] ]
+]
+
+-- the numbers of s from `from` to `to`, as far as they can be read; a number has a byte at least
+unfoldable pub renumbered : (s : List ℕ) → (from to : ℕ) → List ℕ
+renumbered s from to = renumberedBy (to - from) s from to
