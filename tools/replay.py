@@ -1,7 +1,8 @@
 #!/usr/bin/env python3
-"""Writes crates/replay_reads/stdin and stdout: verdicts of the judge's own reader, for the gate to replay.
-Run at the repository's root, with the judge built (oracle/README.md): 800 trees as they come in, then answered
-trees, whole and with one depth or one byte changed."""
+"""Writes what the gate replays. Run at the repository's root, with the judge built (oracle/README.md).
+crates/replay_reads/stdin and stdout: verdicts of the judge's own reader on 800 trees as they come in, then on
+answered trees, whole and with one depth or one byte changed.
+crates/replay_answers/stdin and stdout: 1,200 whole answers of the original."""
 import random, subprocess
 
 JUDGE = 'oracle/target/release/oracle'
@@ -29,4 +30,9 @@ for text in ask('vectors', '400', '9', '--max', '200').decode().splitlines():
         lines.append(line(bytes(changed)))
 open('crates/replay_reads/stdin', 'w').writelines(lines)
 open('crates/replay_reads/stdout', 'w').write(f'{len(lines)} cases, 0 differ\n')
-print(len(lines), 'cases')
+print(len(lines), 'cases of reading')
+
+ANSWERS = 1200
+open('crates/replay_answers/stdin', 'wb').write(ask('answer-cases', str(ANSWERS), '1'))
+open('crates/replay_answers/stdout', 'w').write(f'{ANSWERS} cases, 0 differ\n')
+print(ANSWERS, 'whole answers')

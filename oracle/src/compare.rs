@@ -4,6 +4,7 @@
 use crate::generate::dice::Dice;
 use crate::generate::form::Bytes;
 use crate::generate::{any, damage::damage, limits, sheet};
+use crate::shrink::shrink;
 use crate::vectors::hex;
 use std::io::{Read, Write};
 use std::process::{Command, Stdio};
@@ -43,7 +44,7 @@ impl Comparison<'_> {
             if got.trim_end() != wanted.trim_end() {
                 differences += 1;
                 if differences == 1 {
-                    self.say(&self.shrink(tree));
+                    self.say(&shrink(tree, SHRINKING, &mut |less| self.differs(less)));
                 }
             }
         }
@@ -97,44 +98,6 @@ impl Comparison<'_> {
 
     fn differs(&self, tree: &[u8]) -> bool {
         self.told(tree).trim_end() != (self.wanted)(tree).trim_end()
-    }
-
-    /// Takes parts away, larger ones first, while the two still differ; then
-    /// makes bytes smaller.
-    fn shrink(&self, mut tree: Bytes) -> Bytes {
-        let mut runs = 0;
-        let mut part = tree.len().max(1);
-        while part > 0 && runs < SHRINKING {
-            let mut at = 0;
-            let before = tree.len();
-            while at < tree.len() && runs < SHRINKING {
-                let end = (at + part).min(tree.len());
-                let less = [&tree[..at], &tree[end..]].concat();
-                runs += 1;
-                if self.differs(&less) {
-                    tree = less;
-                } else {
-                    at += part;
-                }
-            }
-            if part == 1 && tree.len() < before {
-                continue;
-            }
-            part /= 2;
-        }
-        for at in 0..tree.len() {
-            for byte in [0, 1, 2] {
-                if byte < tree[at] && runs < 2 * SHRINKING {
-                    let old = std::mem::replace(&mut tree[at], byte);
-                    runs += 1;
-                    if self.differs(&tree) {
-                        break;
-                    }
-                    tree[at] = old;
-                }
-            }
-        }
-        tree
     }
 }
 

@@ -1,5 +1,6 @@
 //! An oracle for the scoping library: the original Rust, run unchanged.
 
+mod answers;
 mod beside;
 mod bodies;
 mod cases;
@@ -7,21 +8,29 @@ mod compare;
 mod edges;
 mod generate;
 mod keeping;
+mod lending;
+#[cfg(feature = "library")]
+mod library;
 mod passes;
+#[cfg(feature = "library")]
+mod perf;
 mod pruning;
 mod read;
 mod readers;
 mod refusal;
 mod selftest;
+mod shrink;
 mod skips;
 mod standing;
 mod text;
+#[cfg(feature = "library")]
+mod through;
 mod vectors;
 mod walks;
 mod write;
 
 use compare::Comparison;
-use generate::{limits, sheet};
+use generate::{heavy, limits, sheet};
 use passes::{scope, List, Room, BENCH};
 use read::Depths;
 use refusal::Refusal;
@@ -46,6 +55,9 @@ oracle readers DECLARATION MAX < answered-tree       depth, container, name
 oracle vectors N SEED [--max BYTES]                  small trees with all their answers
 oracle cases N SEED                                  number, place and tree, for replaying the reading
 oracle reader-cases N SEED                           tree, declaration, maximum, answer
+oracle answer-cases N SEED                           whole answers, for replaying them; bytes
+oracle compare [N SEED] [--three]                    the library, called from here, against the original
+oracle perf [RUNS]                                   times of both, a table
 oracle compare-reads PROGRAM N SEED [--answered]     PROGRAM against reads
 oracle compare-listing PROGRAM N SEED [--walks]      PROGRAM against listing
 oracle emit [KIND]                                   a tree that has a name, or all the names
@@ -58,15 +70,23 @@ struct Line {
     depths: Depths,
     list: List,
     max: usize,
+    three: bool,
 }
 
 fn line() -> Line {
-    let mut line = Line { words: vec![], depths: Depths::Incoming, list: List::Pruning, max: 150 };
+    let mut line = Line {
+        words: vec![],
+        depths: Depths::Incoming,
+        list: List::Pruning,
+        max: 150,
+        three: false,
+    };
     let mut words = std::env::args().skip(1);
     while let Some(word) = words.next() {
         match word.as_str() {
             "--answered" => line.depths = Depths::Answered,
             "--walks" => line.list = List::Walks,
+            "--three" => line.three = true,
             "--max" => line.max = number(&words.next().unwrap_or_default()),
             _ => line.words.push(word),
         }
@@ -75,7 +95,7 @@ fn line() -> Line {
 }
 
 fn run() -> i32 {
-    let Line { words, depths, list, max } = line();
+    let Line { words, depths, list, max, three } = line();
     let words: Vec<&str> = words.iter().map(|word| word.as_str()).collect();
     let out: Vec<u8> = match words[..] {
         ["listing" | "list" | "scope"] => listing(scope(&input(), BENCH, list)).into(),
@@ -94,6 +114,13 @@ fn run() -> i32 {
         ["vectors", count, seed] => vectors::vectors(number(count), number(seed), max).into(),
         ["cases", count, seed] => cases::cases(number(count), number(seed)).into(),
         ["reader-cases", count, seed] => readers::cases(number(count), number(seed)).into(),
+        ["answer-cases", count, seed] => answers::answer_cases(number(count), number(seed)),
+        ["compare"] => return through_library(Asked::Compare(20_000, 1, three)),
+        ["compare", count, seed] => {
+            return through_library(Asked::Compare(number(count), number(seed), three))
+        }
+        ["perf"] => return through_library(Asked::Perf(21)),
+        ["perf", runs] => return through_library(Asked::Perf(number(runs))),
         ["compare-reads", program, count, seed] => {
             let wanted = |tree: &[u8]| reads(tree, depths);
             let same = Comparison { program, wanted: &wanted }.run(number(count), number(seed));
@@ -124,6 +151,32 @@ fn run() -> i32 {
     0
 }
 
+/// What needs the library.
+#[cfg_attr(not(feature = "library"), allow(dead_code))]
+enum Asked {
+    Compare(usize, u64, bool),
+    Perf(usize),
+}
+
+#[cfg(feature = "library")]
+fn through_library(asked: Asked) -> i32 {
+    match asked {
+        Asked::Compare(count, seed, three) => !through::compare(count, seed, three) as i32,
+        Asked::Perf(runs) => {
+            print!("{}", perf::perf(runs));
+            0
+        }
+    }
+}
+
+#[cfg(not(feature = "library"))]
+fn through_library(_: Asked) -> i32 {
+    eprintln!("built without the library. At the repository's root: rt staticlib hurdlebraid");
+    eprintln!("Then here: cargo run --release --features library -- compare");
+    eprintln!("       or: cargo run --profile perf --features library -- perf");
+    2
+}
+
 fn input() -> Vec<u8> {
     let mut bytes = Vec::new();
     std::io::stdin().read_to_end(&mut bytes).unwrap();
@@ -140,7 +193,8 @@ fn named() -> Vec<(String, Vec<u8>)> {
     let proved = proved.map(|(k, tree)| (format!("p{}", k + 1), tree));
     let sheet = ("sheet".to_string(), sheet::hex(sheet::BENCH_SHEET));
     let limits = limits::all().into_iter().map(|named| (named.name, named.tree));
-    std::iter::once(sheet).chain(proved).chain(limits).collect()
+    let heavy = heavy::all().into_iter().map(|(name, tree)| (name.to_string(), tree));
+    std::iter::once(sheet).chain(proved).chain(limits).chain(heavy).collect()
 }
 
 fn listing(scoped: Result<passes::Scoped, Refusal>) -> String {

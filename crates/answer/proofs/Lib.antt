@@ -6,5 +6,6 @@ pub mod Chain
 pub mod Copying
 pub mod Said
 pub mod Spelling
+pub mod Words
 pub mod Runs
 pub mod Fields

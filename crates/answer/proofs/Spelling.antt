@@ -32,7 +32,7 @@ part-none s at = let e : at - at ≡ 0 = omega arith in ap (λ (k : ℕ). take k
 
 -- what groups of weight w and up come to, in the middle of a number: u, whose groups stand in s from `at` on
 data Spelt (s : List ℕ) (left at w v : ℕ) (c : Cur) : Got ℕ → Type 0 where
-  spelt : (u next : ℕ) → at < next → next ≤ length s → ((w ≡ 1 → ⊥) → 0 < u) → (Bytewise s → groupsB left u ≡ part s at next) → Spelt s left at w v c (got (v + u * w) (moved c next))
+  spelt : (u next : ℕ) → at + length (groupsB left u) ≡ next → at < next → next ≤ length s → ((w ≡ 1 → ⊥) → 0 < u) → (Bytewise s → groupsB left u ≡ part s at next) → Spelt s left at w v c (got (v + u * w) (moved c next))
   unread : {n p : ℕ} → Spelt s left at w v c (refused n p)
 
 module _ (left start w v : ℕ) (s : List ℕ) (at : ℕ) (c : Cur) (h : at < length s) where
@@ -45,7 +45,7 @@ module _ (left start w v : ℕ) (s : List ℕ) (at : ℕ) (c : Cur) (h : at < le
   last-spelt k = go (decLt (v + byte * w) (2 ^ 32)) (ℕ-discrete byte 0) (ℕ-discrete w 1)
     where
       is : ((w ≡ 1 → ⊥) → 0 < byte) → Spelt s (suc left) at w v c (got (v + byte * w) (moved c (at + 1)))
-      is z = spelt byte (at + 1) (omega arith) (omega arith) z (λ b. groups-small left byte k ∙ sym (part-cons s at (at + 1) h (omega arith) ∙ ap (λ (l : List ℕ). byte ∷ l) (part-none s (at + 1))))
+      is z = spelt byte (at + 1) (omega (arith, ap length (groups-small left byte k))) (omega arith) (omega arith) z (λ b. groups-small left byte k ∙ sym (part-cons s at (at + 1) h (omega arith) ∙ ap (λ (l : List ℕ). byte ∷ l) (part-none s (at + 1))))
 
       go : Dec (v + byte * w < 2 ^ 32) → Dec (byte ≡ 0) → Dec (w ≡ 1) → Spelt s (suc left) at w v c (lastGroup byte w v start (at + 1) c)
       go (no l) z o = rw (le-ltb (v + byte * w) (2 ^ 32) (omega arith), lastGroup) unread
@@ -58,12 +58,12 @@ module _ (left start w v : ℕ) (s : List ℕ) (at : ℕ) (c : Cur) (h : at < le
 
   -- a group with others behind it
   more-spelt : 128 ≤ byte → 0 < w → {q : Got ℕ} → Spelt s left (at + 1) (w * 128) (v + byte % 128 * w) c q → Spelt s (suc left) at w v c q
-  more-spelt k p (spelt u next later within some bytes) =
+  more-spelt k p (spelt u next long later within some bytes) =
       let u′ : ℕ = u * 128 + byte % 128 in
       let z : 0 < u = some (λ e. omega arith) in
       let low : u′ % 128 ≡ byte % 128 = omega arith in
       let high : u′ / 128 ≡ u = omega arith in
-      subst (λ (n : ℕ). Spelt s (suc left) at w v c (got n (moved c next))) (sym (value-on u)) (spelt u′ next (omega arith) within (λ _. omega arith)
+      subst (λ (n : ℕ). Spelt s (suc left) at w v c (got n (moved c next))) (sym (value-on u)) (spelt u′ next (omega (arith, long, ap length (groups-more left u′ (omega arith)), ap (λ (n : ℕ). length (groupsB left n)) high)) (omega arith) within (λ _. omega arith)
       (λ b. let e : 128 + byte % 128 ≡ byte = omega (arith, b at) in
       groups-more left u′ (omega arith) ∙ ap (λ (n : ℕ). (128 + n) ∷ groupsB left (u′ / 128)) low ∙ ap (λ (n : ℕ). n ∷ groupsB left (u′ / 128)) e
       ∙ ap (λ (l : List ℕ). byte ∷ l) (ap (groupsB left) high ∙ bytes b) ∙ sym (part-cons s at next h (omega arith))))
@@ -82,18 +82,19 @@ groups-spelt (suc left) start w v s at c p = go (decLt at (length s)) (decLt (ge
 
 -- v was read from `at` to `next`
 pub record Reading (s : List ℕ) (at v next : ℕ) : Type 0 where
+  pub long : at + length (numB v) ≡ next
   pub later : at < next
   pub within : next ≤ length s
   pub bytes : Bytewise s → numB v ≡ part s at next
 
 reading : {s : List ℕ} {at : ℕ} {c : Cur} {q : Got ℕ} (v : ℕ) (next : Cur) → Spelt s 5 at 1 0 c q → q ≡ got v next → Reading s at v (next .at)
 unfolding numB moved
-reading {s} {at} {c} v next (spelt u n later within some bytes) e =
+reading {s} {at} {c} v next (spelt u n long later within some bytes) e =
     let value : 0 + u * 1 ≡ v = cc in
     let end : moved c n ≡ next = cc in
     let z : u ≡ v = omega arith in
     let m : n ≡ next .at = ap (λ (d : Cur). d .at) end in
-    record { later = omega arith; within = omega arith; bytes = λ b. ap (groupsB 5) (sym z) ∙ bytes b ∙ ap (part s at) m }
+    record { long = ap (λ (i : ℕ). at + length (groupsB 5 i)) (sym z) ∙ long ∙ m; later = omega arith; within = omega arith; bytes = λ b. ap (groupsB 5) (sym z) ∙ bytes b ∙ ap (part s at) m }
 reading v next unread e = let z : _≡_ {A = ℕ} 0 1 = cc in absurd (omega arith)
 
 pub num-reading : (s : List ℕ) (c : Cur) (v : ℕ) (next : Cur) → num s c ≡ got v next → Reading s (c .at) v (next .at)

@@ -6,6 +6,8 @@ use tree::number::Read;
 use tree::number::number;
 ghost use Rattle.answer.specs.Out.{Front, Put};
 ghost use Rattle.answer.specs.Parts.{part, renumbered};
+ghost use mathlib.Core.List.{_++_};
+ghost use Rattle.penne.specs.Write.{numB};
 
 // To the front of a part.
 pub fn put_bytes(out: &mut [u8], xs: &[u8]) -> Wrote
@@ -71,4 +73,19 @@ pub fn then_numbers(out: &mut [u8], w: Wrote, tree: &[u8], from: usize, to: usiz
         at = next;
     }
     c
+}
+
+// A kind, and the tree's numbers behind it.
+pub fn then_head(
+    out: &mut [u8],
+    w: Wrote,
+    kind: u32,
+    tree: &[u8],
+    from: usize,
+    to: usize,
+) -> Wrote
+    ensures { λ r. ⌜ Put w (numB kind ++ renumbered (now (tree .entry)) from to) (now (out .entry)) r (now (out .exit)) ⌝ }
+{
+    let a = then_number(out, w, kind);
+    then_numbers(out, a, tree, from, to)
 }

@@ -2,3 +2,4 @@
 pub mod words; // words of 32 bits, and counters
 pub mod bytes; // bytes
 pub mod rows; // sets of numbers below 128, four words each
+pub mod layout; // where the tables stand in the work words

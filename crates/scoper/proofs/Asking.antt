@@ -29,7 +29,7 @@ use Rattle.scoper.specs.Asking.{depthAsked, containerAsked, unaskedBy, N
 
 -- THE DEPTH BEHIND n OTHERS
 
-such-go : {A : Type 0} (test : A → Cur → Bool) (k at : ℕ) (q : Got A) {a : A} {c : Cur} → elim q as (λ _. Got A) [ got x next ↦ elim (test x next) [ true ↦ got x next | false ↦ refused k at ] | refused i p ↦ refused i p ] ≡ got a c → q ≡ got a c
+pub such-go : {A : Type 0} (test : A → Cur → Bool) (k at : ℕ) (q : Got A) {a : A} {c : Cur} → elim q as (λ _. Got A) [ got x next ↦ elim (test x next) [ true ↦ got x next | false ↦ refused k at ] | refused i p ↦ refused i p ] ≡ got a c → q ≡ got a c
 such-go test k at (got x next) {a} {c} e = (elim (test x next) as (λ t. elim t as (λ _. Got _) [ true ↦ got x next | false ↦ refused k at ] ≡ got a c → got x next ≡ got a c) [
   | true ↦ λ h. h
   | false ↦ λ h. got-never h
@@ -129,19 +129,19 @@ asks-refused {A} f s k {n} {p} e = (elim (ltb 65535 (length s)) as (λ t. ltb 65
   | false ↦ λ z. rw (z, ask) (tree-refused f k (decode answered s) (rw (z, refusal) at e))
 ]) refl
 
-asks-decoded : {A : Type 0} (f : Tree Spot → Decl Spot → A) {s : List ℕ} {l : Layout} (k : ℕ) (d : Decoded s l) → ask f s k ≡ askDecl (f (record { names = d .laid .table; decls = d .laid .decls; depths = d .depths })) (getElem? (d .laid .decls) k)
+pub asks-decoded : {A : Type 0} (f : Tree Spot → Decl Spot → A) {s : List ℕ} {l : Layout} (k : ℕ) (d : Decoded s l) → ask f s k ≡ askDecl (f (record { names = d .laid .table; decls = d .laid .decls; depths = d .depths })) (getElem? (d .laid .decls) k)
 unfolding ask askTree
 asks-decoded f {s} k d = rw (d .short, ask) (ap (askTree f k) (d .decoded))
 
-long : {s : List ℕ} {l : Layout} (d : Decoded s l) → length (d .laid .decls) ≡ l .count
+pub long : {s : List ℕ} {l : Layout} (d : Decoded s l) → length (d .laid .decls) ≡ l .count
 long {l = l} d = many-length _ (l .count) _ _ (d .laid .read)
 
-elem-past : {A : Type 0} (xs : List A) (k : ℕ) → length xs ≤ k → getElem? xs k ≡ none
+pub elem-past : {A : Type 0} (xs : List A) (k : ℕ) → length xs ≤ k → getElem? xs k ≡ none
 elem-past [] k h = refl
 elem-past (x ∷ xs) zero h = absurd (not-suc-le-zero h)
 elem-past (x ∷ xs) (suc k) h = elem-past xs k (le-of-suc-le-suc h)
 
-elem-case : {A X : Type 0} (xs : List A) (k : ℕ) → k < length xs → ((a : A) → getElem? xs k ≡ some a → X) → X
+pub elem-case : {A X : Type 0} (xs : List A) (k : ℕ) → k < length xs → ((a : A) → getElem? xs k ≡ some a → X) → X
 elem-case [] k h next = absurd (not-suc-le-zero h)
 elem-case (x ∷ xs) zero h next = next x refl
 elem-case (x ∷ xs) (suc k) h next = elem-case xs k (le-of-suc-le-suc h) next

@@ -8,3 +8,4 @@ pub mod Statements
 pub mod Names
 pub mod Scripts
 pub mod Unique
+pub mod Marks

@@ -4,6 +4,7 @@ use mathlib.Core.Bool.{Bool, true, false, _&&_, _||_, not}
 use mathlib.Core.List.{List, [], _∷_, _++_}
 use Prim.Native.Nat.{ℕ, zero, suc, _+_, _-_, _*_, _%_, _^_, _≤_, _<_}
 use native.Mathlib.Omega.{arith}
+use native.Mathlib.Decide.{ℕ-discrete}
 use native.Mathlib.Nat.{not-suc-le-zero, le-of-suc-le-suc, le-mul-of-pos-right, mul-comm}
 use lib.Dec.{eqb, ltb, leb, lit≤}
 use lib.ListN.{length, getD, take, drop, length-drop}
@@ -17,57 +18,61 @@ use Rattle.tree.specs.Answers.{cursor, numberOf, endOf, forget, Gives, R
 use Rattle.tree.proofs.Chain.{after, here, never′}
 use Rattle.tree.proofs.Counting.{forget-no}
 use Rattle.tree.proofs.Numbers.{out, last, on, such-no, such-got, such-not}
-use Rattle.tree.specs.Names.{part, behind, namesFrom, namesEnd, tableOf, Tables, afterOne, OneMore}
+use Rattle.tree.specs.Names.{part, behind, namesFrom, namesEnd, tableOf, Tables, afterOne, OneMore, Marked, Noted}
 
 -- PARTS
 
--- so far the two are the same
-pub record SameFrom (a b : List ℕ) (i : ℕ) : Type 0 where
-  pub is : sameBytes a b ≡ sameBytes (drop i a) (drop i b)
+pub true-not : {X : Type 0} → true ≡ false → X
+true-not e = let y : _≡_ {A = ℕ} 0 1 = cc in absurd (omega arith)
+
+-- so far the two are the same, from the end on
+pub record SameBehind (a b : List ℕ) (i : ℕ) : Type 0 where
+  pub same : (j : ℕ) → i ≤ j → j < length a → getD a j 0 ≡ getD b j 0
   pub long : length a ≡ length b
   pub within : i ≤ length a
 
-pub same-not-long : (a b : List ℕ) → (length a ≡ length b → ⊥) → false ≡ sameBytes a b
+pub same-eq : (a b : List ℕ) → sameBytes a b ≡ true → a ≡ b
 unfolding sameBytes
-same-not-long [] [] h = absurd (h refl)
-same-not-long [] (y ∷ ys) h = refl
-same-not-long (x ∷ xs) [] h = refl
-same-not-long (x ∷ xs) (y ∷ ys) h = (elim (eqb x y) as (λ t. eqb x y ≡ t → false ≡ (eqb x y && sameBytes xs ys)) [
-  | true ↦ λ e. rw e (same-not-long xs ys (λ z. h (ap suc z)))
-  | false ↦ λ e. rw e
+same-eq [] [] e = refl
+same-eq [] (y ∷ ys) e = true-not (sym e)
+same-eq (x ∷ xs) [] e = true-not (sym e)
+same-eq (x ∷ xs) (y ∷ ys) e = (elim (eqb x y) as (λ t. eqb x y ≡ t → (t && sameBytes xs ys) ≡ true → x ∷ xs ≡ y ∷ ys) [
+  | true ↦ λ z h. λ i. eqb-true x y z i ∷ same-eq xs ys h i
+  | false ↦ λ z h. true-not (sym h)
+]) refl e
+
+not-same : (a b : List ℕ) → (a ≡ b → ⊥) → false ≡ sameBytes a b
+not-same a b h = (elim (sameBytes a b) as (λ t. sameBytes a b ≡ t → false ≡ t) [
+  | true ↦ λ z. absurd (h (same-eq a b z))
+  | false ↦ λ z. refl
 ]) refl
 
-pub same-start : {a b : List ℕ} → length a ≡ length b → SameFrom a b 0
-same-start h = record { is = refl; long = h; within = omega arith }
+pub same-not-long : (a b : List ℕ) → (length a ≡ length b → ⊥) → false ≡ sameBytes a b
+same-not-long a b h = not-same a b λ e. h (ap length e)
 
-same-cons : (x y : ℕ) (xs ys : List ℕ) → x ≡ y → sameBytes (x ∷ xs) (y ∷ ys) ≡ sameBytes xs ys
+pub same-start : {a b : List ℕ} → length a ≡ length b → SameBehind a b (length a)
+same-start h = record { same = λ j lo hi. absurd (omega arith); long = h; within = omega arith }
+
+same-all : (a b : List ℕ) → length a ≡ length b → ((j : ℕ) → j < length a → getD a j 0 ≡ getD b j 0) → true ≡ sameBytes a b
 unfolding sameBytes
-same-cons x y xs ys e = rw (eq-eqb x y e)
+same-all [] [] l h = refl
+same-all [] (y ∷ ys) l h = absurd (omega (arith, l))
+same-all (x ∷ xs) [] l h = absurd (omega (arith, l))
+same-all (x ∷ xs) (y ∷ ys) l h = same-all xs ys (omega (arith, l)) (λ j k. h (suc j) (omega (arith, k))) ∙ sym (rw (eq-eqb x y (h 0 (omega arith))))
 
-differ-cons : (x y : ℕ) (xs ys : List ℕ) → (x ≡ y → ⊥) → sameBytes (x ∷ xs) (y ∷ ys) ≡ false
-unfolding sameBytes
-differ-cons x y xs ys e = rw (ne-eqb x y e)
+module _ {a b : List ℕ} {i : ℕ} (g : SameBehind a b i) (h : 0 < i) where
+  pub same-differ : (getD a (i - 1) 0 ≡ getD b (i - 1) 0 → ⊥) → false ≡ sameBytes a b
+  same-differ z = not-same a b λ e. z (ap (λ (l : List ℕ). getD l (i - 1) 0) e)
 
-module _ {a b : List ℕ} {i : ℕ} (g : SameFrom a b i) where
-  both : i < length a → sameBytes a b ≡ sameBytes (getD a i 0 ∷ drop (suc i) a) (getD b i 0 ∷ drop (suc i) b)
-  both h = g .is ∙ ap (λ (x : List ℕ). sameBytes x (drop i b)) (drop-cons a i 0 h) ∙ ap (sameBytes (getD a i 0 ∷ drop (suc i) a)) (drop-cons b i 0 (omega (arith, g .long)))
+  pub same-on : getD a (i - 1) 0 ≡ getD b (i - 1) 0 → SameBehind a b (i - 1)
+  same-on z = record { same = λ j lo hi. one-more j (ℕ-discrete j (i - 1)) lo hi; long = g .long; within = omega (arith, g .within) }
+    where
+      one-more : (j : ℕ) → Dec (j ≡ i - 1) → i - 1 ≤ j → j < length a → getD a j 0 ≡ getD b j 0
+      one-more j (yes e) lo hi = subst (λ (k : ℕ). getD a k 0 ≡ getD b k 0) (sym e) z
+      one-more j (no e) lo hi = g .same j (omega arith) hi
 
-  pub same-differ : i < length a → (getD a i 0 ≡ getD b i 0 → ⊥) → false ≡ sameBytes a b
-  same-differ h z = sym (both h ∙ differ-cons _ _ _ _ z)
-
-  pub same-on : i < length a → getD a i 0 ≡ getD b i 0 → SameFrom a b (i + 1)
-  same-on h z =
-      let e : suc i ≡ i + 1 = omega arith in
-      record { is = both h ∙ same-cons _ _ _ _ z ∙ ap (λ (j : ℕ). sameBytes (drop j a) (drop j b)) e; long = g .long; within = omega arith }
-
-  nothing-left : (xs ys : List ℕ) → length xs ≡ 0 → length ys ≡ 0 → true ≡ sameBytes xs ys
-  unfolding sameBytes
-  nothing-left [] [] p q = refl
-  nothing-left [] (y ∷ ys) p q = absurd (omega (arith, q))
-  nothing-left (x ∷ xs) ys p q = absurd (omega (arith, p))
-
-  pub same-done : length a ≤ i → true ≡ sameBytes a b
-  same-done h = nothing-left _ _ (length-drop i a ∙ omega arith) (length-drop i b ∙ omega (arith, g .long)) ∙ sym (g .is)
+pub same-done : {a b : List ℕ} {i : ℕ} → SameBehind a b i → i ≤ 0 → true ≡ sameBytes a b
+same-done {a} {b} g h = same-all a b (g .long) (λ j k. g .same j (omega arith) k)
 
 drop-past : (s : List ℕ) (at : ℕ) → length s ≤ at → drop at s ≡ []
 drop-past [] zero h = refl
@@ -221,7 +226,7 @@ and-false : (a : Bool) {b : Bool} → b ≡ false → (a && b) ≡ false
 and-false true e = e
 and-false false e = refl
 
-refused-not : {X : Type 0} {i p v b : ℕ} → Refused i p ≡ Number v b → X
+pub refused-not : {X : Type 0} {i p v b : ℕ} → Refused i p ≡ Number v b → X
 refused-not e = let y : _≡_ {A = ℕ} 0 1 = cc in absurd (omega arith)
 
 number-is : {v b w d : ℕ} → Number v b ≡ Number w d → d ≡ b
@@ -315,6 +320,9 @@ module _ (count : ℕ) {s : List ℕ} (from : ℕ) {at : ℕ} (z : namesEnd coun
 
         end-is : b ≡ namesEnd (suc count) s from
         end-is = raw-end n g₂ h ∙ (let q = length-byte g e (omega arith) in omega (arith, q .0, q .1)) ∙ sym (end-snoc count s from ∙ ap (behind s) z)
+
+        pub more-noted : {cells : List ℕ} → Marked cells (before count s from ++ (x ∷ [])) → Noted count s from (Number n b) cells
+        more-noted {cells} m = record { marked = λ v d r. subst (Marked cells) (ap (λ (l : List ℕ). before count s from ++ (l ∷ [])) w ∙ name-is) m }
 
         pub more-is : t ≡ false → OneMore count s from at (Number n b)
         unfolding afterOne _>>=_

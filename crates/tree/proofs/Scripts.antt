@@ -24,7 +24,7 @@ use Rattle.tree.specs.declared.Verdict.{Verdict}
 use Rattle.tree.specs.declared.Verdict.the-variants as W
 use Rattle.tree.specs.Answers.{cursor, numberOf, endOf, forget, Gives, Reads, Ends, Skips, countsOf, passedOf, Passes}
 use Rattle.tree.specs.Names.{namesFrom, tableOf, Tables}
-use Rattle.tree.specs.Script.{refusalOf, refusal, verdictOf, start, LaidOut, Lays, notLaidBy, unlaidBy, endedBy, depthBy, IncomingDepths, AnsweredDepths, Decoded, AnsweredLayout}
+use Rattle.tree.specs.Script.{refusalOf, refusal, verdictOf, start, LaidOut, Lays, notLaidBy, unlaidBy, depthBy, IncomingDepths, AnsweredDepths, DecodedAs, LayoutAs}
 use Rattle.tree.proofs.Chain.{after, here, never, never′, reads, ends-number, ends-ret, ends-call, ends-halt, ends-tail, test-halt, test-passed, test-failed}
 use Rattle.tree.proofs.Fields.{goes, stops}
 use Rattle.tree.proofs.Counting.{forget-no, counting-no, counting-fits, counting-full}
@@ -49,7 +49,7 @@ pub bind-case : {A B X : Type 0} (m : Reader A) (f : A → Reader B) (s : List �
 unfolding _>>=_
 bind-case m f s c e next = bind-go f s (m s c) e next
 
-many-case : {A X : Type 0} (m : Reader A) (n : ℕ) (s : List ℕ) (c : Cur) {xs : List A} {d : Cur} → many m (suc n) s c ≡ got xs d → ((a : A) (c′ : Cur) (rest : List A) → m s c ≡ got a c′ → many m n s c′ ≡ got rest d → xs ≡ a ∷ rest → X) → X
+pub many-case : {A X : Type 0} (m : Reader A) (n : ℕ) (s : List ℕ) (c : Cur) {xs : List A} {d : Cur} → many m (suc n) s c ≡ got xs d → ((a : A) (c′ : Cur) (rest : List A) → m s c ≡ got a c′ → many m n s c′ ≡ got rest d → xs ≡ a ∷ rest → X) → X
 unfolding many ret
 many-case m n s c e next = bind-case m _ s c e λ a c₁ h e₁. bind-case (many m n) _ s c₁ e₁ λ rest c₂ h₂ e₂. next a c₁ rest h (h₂ ∙ ap (got rest) (got-cursor e₂)) (sym (got-value e₂))
 
@@ -98,10 +98,10 @@ module _ {s : List ℕ} {count at rest cur : ℕ} (g : Coming s count at rest cu
 pub record Yields {A : Type 0} (P : A → Type 0) (m : Reader A) : Type 0 where
   pub all : (s : List ℕ) (c : Cur) (a : A) (d : Cur) → m s c ≡ got a d → P a
 
-yields-bind : {A B : Type 0} {P : B → Type 0} (m : Reader A) (f : A → Reader B) → ((a : A) → Yields P (f a)) → Yields P (m >>= f)
+pub yields-bind : {A B : Type 0} {P : B → Type 0} (m : Reader A) (f : A → Reader B) → ((a : A) → Yields P (f a)) → Yields P (m >>= f)
 yields-bind m f h = record { all = λ s c b d e. bind-case m f s c e λ a c′ _ e′. h a .all s c′ b d e′ }
 
-yields-ret : {A : Type 0} (P : A → Type 0) (a : A) → P a → Yields P (ret a)
+pub yields-ret : {A : Type 0} (P : A → Type 0) (a : A) → P a → Yields P (ret a)
 unfolding ret
 yields-ret P a h = record { all = λ s c b d e. subst P (got-value e) h }
 
@@ -284,11 +284,15 @@ module _ {s : List ℕ} {m₁ : Read} (g₁ : Gives num s 0 m₁) where
           declared-not e = refuses refl λ depth. listed-on depth ∙ ap (after (depths-of depth (namesFrom n s a)) s) (forget-no _ (sym declared-is ∙ ap (passedOf n) e))
 
           pub declared-all : {d : ℕ} {q : C.Counts} → one ≡ To d q → Lays s (L.Out (record { names = n; count = m; first = c; depths = d }))
-          unfolding passedOf
+          unfolding passedOf numberOf tableOf
           declared-all {d} {q} e =
               let w = forget-got (many readDecl m s (cursor c n nothing)) (sym (ap (passedOf n) e) ∙ declared-is) in
               let out₀ : LaidOut s (record { names = n; count = m; first = c; depths = d }) = record {
                 table = namesFrom n s a;
+                begin = a;
+                behind = cursor b 0 nothing;
+                counted = sym (g₁ .is 0 nothing) ∙ ap (numberOf 0 nothing) e₁;
+                named = sym (g₂ .is nothing) ∙ ap (tableOf n s a nothing) e₂;
                 decls = w .0;
                 counts = countsOf q;
                 read = w .1;
@@ -296,108 +300,67 @@ module _ {s : List ℕ} {m₁ : Read} (g₁ : Gives num s 0 m₁) where
               } in
               record { out = λ l h. subst (λ (y : Layout). LaidOut s y) (out-same h) out₀; not = λ i p h. laid-out-not h }
 
--- THE VERDICT
+-- THE LAYOUT, AND THE VERDICT
 
 long-first : (depth : Decl Spot → Reader ℕ) (s : List ℕ) → 65535 < length s → some (1, 0) ≡ refusal depth s
 unfolding refusal
 long-first depth s h = sym (rw (lt-ltb 65535 (length s) h, refusal))
 
-pub verdict-long : (depth : Decl Spot → Reader ℕ) (s : List ℕ) → 65535 < length s → verdictOf (W.Refused 1 0) ≡ refusal depth s
-unfolding verdictOf
-verdict-long depth s h = long-first depth s h
-
 short-on : (depth : Decl Spot → Reader ℕ) (s : List ℕ) → length s ≤ 65535 → refusal depth s ≡ refusalOf (decode depth s)
 unfolding refusal
 short-on depth s h = rw (le-ltb 65535 (length s) h, refusal)
 
-pub verdict-unlaid : (depth : Decl Spot → Reader ℕ) {s : List ℕ} {x : Laid} {y : Verdict} {i p : ℕ} → length s ≤ 65535 → Lays s x → x ≡ L.Refused i p → y ≡ unlaidBy x → verdictOf y ≡ refusal depth s
-unfolding verdictOf decode ended refusalOf
-verdict-unlaid depth {s} {i = i} {p} h g e z = ap verdictOf (z ∙ ap unlaidBy e) ∙ sym (short-on depth s h ∙ ap (λ (q : Got (Tree Spot)). refusalOf (ended s q)) (g .not i p e depth))
-
--- behind the depths nothing may be left
-same-end : (x : Tree Spot) (s : List ℕ) (v n names : ℕ) (k : Counts) → verdictOf (endedBy s (Number v n)) ≡ refusalOf (ended s (got x (cursor n names k)))
-unfolding verdictOf endedBy refusalOf ended
-same-end x s v n names k = (elim (ltb n (length s)) as (λ t. ltb n (length s) ≡ t → verdictOf (endedBy s (Number v n)) ≡ refusalOf (ended s (got x (cursor n names k)))) [
-  | true ↦ λ z. rw (z, endedBy, ended)
-  | false ↦ λ z. rw (z, endedBy, ended)
-]) refl
-
-tail-go : (ns : List (List ℕ)) (ds : List (Decl Spot)) (s : List ℕ) (names : ℕ) (k : Counts) (r : Read) (q : Got (List ℕ)) → endOf names k r ≡ forget q →
-    verdictOf (endedBy s r) ≡ refusalOf {A = Tree Spot} (ended s (after (λ hs. ret (record { names = ns; decls = ds; depths = hs })) s q))
-unfolding endOf forget verdictOf endedBy refusalOf ended ret
-tail-go ns ds s names k (Number v n) (got hs c) e =
-    let x : Tree Spot = record { names = ns; decls = ds; depths = hs } in
-    subst (λ (d : Cur). verdictOf (endedBy s (Number v n)) ≡ refusalOf (ended s (got x d))) (here e) (same-end x s v n names k)
-tail-go ns ds s names k (Number v n) (refused i p) e = never e
-tail-go ns ds s names k (Refused i p) (got hs c) e = never′ e
-tail-go ns ds s names k (Refused i p) (refused j q) e = ap (refusalOf {A = Unit {0}}) e
-
-module _ (depth : Decl Spot → Reader ℕ) {s : List ℕ} (h : length s ≤ 65535) {l : Layout} (o : LaidOut s l) {r : Read} (g : Ends (each depth (o .decls)) s (l .names) (l .depths) r) {y : Verdict} (z : y ≡ endedBy s r) where
-  ends-so : verdictOf y ≡ refusal depth s
-  unfolding decode _>>=_
-  ends-so = ap verdictOf z ∙ tail-go (o .table) (o .decls) s (l .names) (o .counts) r _ (g .is (o .counts)) ∙ sym (short-on depth s h ∙ ap (λ (q : Got (Tree Spot)). refusalOf (ended s q)) (o .whole depth))
-
-pub verdict-incoming : {s : List ℕ} {x : Laid} {l : Layout} {r : Read} {y : Verdict} → length s ≤ 65535 → Lays s x → x ≡ L.Out l → IncomingDepths s (l .count) (l .depths) r → y ≡ endedBy s r → verdictOf y ≡ refusal incoming s
-verdict-incoming {l = l} h g e d z =
-    let o = g .out l e in
-    ends-so incoming h o (d .ends (o .decls) (many-length readDecl (l .count) _ _ (o .read)) .ends (l .names)) z
-
--- AN ANSWERED TREE
-
 pair-of : {a b c d : ℕ} → (a ≡ c) × (b ≡ d) → _≡_ {A = ℕ × ℕ} (a, b) (c, d)
 pair-of e = λ i. (e .0 i, e .1 i)
 
-pub answered-long : {s : List ℕ} → 65535 < length s → AnsweredLayout s (L.Refused 1 0)
-answered-long {s} h = record { out = λ l q. laid-not q; not = λ n p q. sym (long-first answered s h) ∙ ap some (pair-of (laid-same q)) }
+pub layout-long : (depth : Decl Spot → Reader ℕ) {s : List ℕ} → 65535 < length s → LayoutAs depth s (L.Refused 1 0)
+layout-long depth {s} h = record { out = λ l q. laid-not q; not = λ n p q. sym (long-first depth s h) ∙ ap some (pair-of (laid-same q)) }
 
-module _ {s : List ℕ} (h : length s ≤ 65535) {x : Laid} (g : Lays s x) where
-  pub answered-unlaid : {i p : ℕ} → x ≡ L.Refused i p → AnsweredLayout s x
+module _ (depth : Decl Spot → Reader ℕ) {s : List ℕ} (h : length s ≤ 65535) {x : Laid} (g : Lays s x) where
+  pub layout-unlaid : {i p : ℕ} → x ≡ L.Refused i p → LayoutAs depth s x
   unfolding decode ended refusalOf
-  answered-unlaid e = record { out = λ l q. laid-not (sym e ∙ q); not = λ n p q. short-on answered s h ∙ ap (λ (q : Got (Tree Spot)). refusalOf (ended s q)) (g .not n p q answered) }
+  layout-unlaid e = record { out = λ l q. laid-not (sym e ∙ q); not = λ n p q. short-on depth s h ∙ ap (λ (q : Got (Tree Spot)). refusalOf (ended s q)) (g .not n p q depth) }
 
-  module _ {l : Layout} (e : x ≡ L.Out l) {r : Read} (d : AnsweredDepths s l r) where
+  module _ {l : Layout} (e : x ≡ L.Out l) {r : Read} (d : Ends (each depth (g .out l e .decls)) s (l .names) (l .depths) r) where
     abbrev o : LaidOut s l
     o = g .out l e
 
     abbrev here-o : Cur
     here-o = cursor (l .depths) (l .names) (o .counts)
 
-    ends-o : Ends (each answered (o .decls)) s (l .names) (l .depths) r
-    ends-o = d .ends (o .decls) _ (o .read)
-
-    pub answered-refused : {y : Laid} {i p : ℕ} → r ≡ Refused i p → y ≡ notLaidBy r → AnsweredLayout s y
+    pub layout-refused : {y : Laid} {i p : ℕ} → r ≡ Refused i p → y ≡ notLaidBy r → LayoutAs depth s y
     unfolding decode ended refusalOf _>>=_ endOf
-    answered-refused {i = i} {p} q z =
-        let w : each answered (o .decls) s here-o ≡ refused i p = forget-no _ (sym (ends-o .is (o .counts)) ∙ ap (endOf (l .names) (o .counts)) q) in
+    layout-refused {i = i} {p} q z =
+        let w : each depth (o .decls) s here-o ≡ refused i p = forget-no _ (sym (d .is (o .counts)) ∙ ap (endOf (l .names) (o .counts)) q) in
         record {
           out = λ k t. laid-not (sym (z ∙ not-laid-no q) ∙ t);
-          not = λ n m t. short-on answered s h ∙ ap (λ (q : Got (Tree Spot)). refusalOf (ended s q)) (o .whole answered ∙ ap (after (λ hs. ret (record { names = o .table; decls = o .decls; depths = hs })) s) w) ∙ ap some (pair-of (laid-same (sym (z ∙ not-laid-no q) ∙ t)));
+          not = λ n m t. short-on depth s h ∙ ap (λ (q : Got (Tree Spot)). refusalOf (ended s q)) (o .whole depth ∙ ap (after (λ hs. ret (record { names = o .table; decls = o .decls; depths = hs })) s) w) ∙ ap some (pair-of (laid-same (sym (z ∙ not-laid-no q) ∙ t)));
         }
 
     module _ {v n : ℕ} (q : r ≡ Number v n) where
-      reads-o : (hs : List ℕ) × (each answered (o .decls) s here-o ≡ got hs (cursor n (l .names) (o .counts)))
+      reads-o : (hs : List ℕ) × (each depth (o .decls) s here-o ≡ got hs (cursor n (l .names) (o .counts)))
       unfolding endOf
-      reads-o = forget-got _ (sym (ap (endOf (l .names) (o .counts)) q) ∙ ends-o .is (o .counts))
+      reads-o = forget-got _ (sym (ap (endOf (l .names) (o .counts)) q) ∙ d .is (o .counts))
 
-      whole-o : readTree answered s start ≡ got (record { names = o .table; decls = o .decls; depths = reads-o .0 }) (cursor n (l .names) (o .counts))
+      whole-o : readTree depth s start ≡ got (record { names = o .table; decls = o .decls; depths = reads-o .0 }) (cursor n (l .names) (o .counts))
       unfolding _>>=_ ret
-      whole-o = o .whole answered ∙ ap (after (λ hs. ret (record { names = o .table; decls = o .decls; depths = hs })) s) (reads-o .1)
+      whole-o = o .whole depth ∙ ap (after (λ hs. ret (record { names = o .table; decls = o .decls; depths = hs })) s) (reads-o .1)
 
-      pub answered-left : n < length s → AnsweredLayout s (L.Refused 10 n)
+      pub layout-left : n < length s → LayoutAs depth s (L.Refused 10 n)
       unfolding decode ended refusalOf
-      answered-left t = record {
+      layout-left t = record {
         out = λ k z. laid-not z;
-        not = λ i p z. short-on answered s h ∙ ap (λ (q : Got (Tree Spot)). refusalOf (ended s q)) whole-o ∙ left-over _ t ∙ ap some (pair-of (laid-same z));
+        not = λ i p z. short-on depth s h ∙ ap (λ (q : Got (Tree Spot)). refusalOf (ended s q)) whole-o ∙ left-over _ t ∙ ap some (pair-of (laid-same z));
       }
         where
           left-over : (y : Tree Spot) → n < length s → refusalOf (ended s (got y (cursor n (l .names) (o .counts)))) ≡ some (10, n)
           left-over y t = rw (lt-ltb n (length s) t, ended)
 
-      pub answered-all : length s ≤ n → AnsweredLayout s (L.Out l)
+      pub layout-all : length s ≤ n → LayoutAs depth s (L.Out l)
       unfolding decode ended
-      answered-all t = record {
+      layout-all t = record {
         not = λ i p z. laid-out-not z;
-        out = λ k z. subst (λ (y : Layout). Decoded s y) (out-same z) (record {
+        out = λ k z. subst (λ (y : Layout). DecodedAs depth s y) (out-same z) (record {
           laid = o;
           depths = reads-o .0;
           end = cursor n (l .names) (o .counts);
@@ -410,30 +373,25 @@ module _ {s : List ℕ} (h : length s ≤ 65535) {x : Laid} (g : Lays s x) where
           all-read : (y : Tree Spot) → length s ≤ n → ended s (got y (cursor n (l .names) (o .counts))) ≡ got y (cursor n (l .names) (o .counts))
           all-read y t = rw (le-ltb n (length s) t, ended)
 
-passes-out : {s : List ℕ} {l : Layout} → Decoded s l → refusal answered s ≡ none
+-- the depths as each of the two ways reads them
+module _ {s : List ℕ} {x : Laid} (g : Lays s x) {l : Layout} (e : x ≡ L.Out l) {r : Read} where
+  pub answered-ends : AnsweredDepths s l r → Ends (each answered (g .out l e .decls)) s (l .names) (l .depths) r
+  answered-ends d = d .ends (g .out l e .decls) _ (g .out l e .read)
+
+  pub incoming-ends : IncomingDepths s (l .count) (l .depths) r → Ends (each incoming (g .out l e .decls)) s (l .names) (l .depths) r
+  incoming-ends d = d .ends (g .out l e .decls) (many-length readDecl (l .count) _ _ (g .out l e .read)) .ends (l .names)
+
+passes-out : (depth : Decl Spot → Reader ℕ) {s : List ℕ} {l : Layout} → DecodedAs depth s l → refusal depth s ≡ none
 unfolding refusal refusalOf
-passes-out {s} d = rw (d .short, refusal) (ap refusalOf (d .decoded))
+passes-out depth {s} d = rw (d .short, refusal) (ap refusalOf (d .decoded))
 
-answered-go : {s : List ℕ} {y : Verdict} (x : Laid) → AnsweredLayout s x → y ≡ unlaidBy x → verdictOf y ≡ refusal answered s
+verdict-go : (depth : Decl Spot → Reader ℕ) {s : List ℕ} {y : Verdict} (x : Laid) → LayoutAs depth s x → y ≡ unlaidBy x → verdictOf y ≡ refusal depth s
 unfolding verdictOf
-answered-go (L.Out l) g z = ap verdictOf z ∙ sym (passes-out (g .out l refl))
-answered-go (L.Refused n p) g z = ap verdictOf z ∙ sym (g .not n p refl)
+verdict-go depth (L.Out l) g z = ap verdictOf z ∙ sym (passes-out depth (g .out l refl))
+verdict-go depth (L.Refused n p) g z = ap verdictOf z ∙ sym (g .not n p refl)
 
-pub verdict-answered : {s : List ℕ} {x : Laid} {y : Verdict} → AnsweredLayout s x → y ≡ unlaidBy x → verdictOf y ≡ refusal answered s
-verdict-answered {x = x} g z = answered-go x g z
-
--- row 10's two ways
-pub ended-left : (s : List ℕ) {r : Read} {v n : ℕ} → r ≡ Number v n → n < length s → W.Refused 10 n ≡ endedBy s r
-unfolding endedBy
-ended-left s {n = n} e h = sym (ap (endedBy s) e ∙ rw (lt-ltb n (length s) h, endedBy))
-
-pub ended-all : (s : List ℕ) {r : Read} {v n : ℕ} → r ≡ Number v n → length s ≤ n → W.Passes ≡ endedBy s r
-unfolding endedBy
-ended-all s {n = n} e h = sym (ap (endedBy s) e ∙ rw (le-ltb n (length s) h, endedBy))
-
-pub ended-no : (s : List ℕ) {r : Read} {i p : ℕ} → r ≡ Refused i p → W.Refused i p ≡ endedBy s r
-unfolding endedBy
-ended-no s e = sym (ap (endedBy s) e)
+pub verdict-is : (depth : Decl Spot → Reader ℕ) {s : List ℕ} {x : Laid} {y : Verdict} → LayoutAs depth s x → y ≡ unlaidBy x → verdictOf y ≡ refusal depth s
+verdict-is depth {x = x} g z = verdict-go depth x g z
 
 -- the kinds that have a depth
 pub depth-rest : (k : ℕ) → (k ≡ 0 → ⊥) → (k ≡ 3 → ⊥) → depthBy (getD declKinds k kBadDecl) ≡ below 1

@@ -1,10 +1,12 @@
 -- The table of names as it lies in the bytes: a name's length is one byte, since it is at most 64, and its bytes follow.
-use Prim.Native.Nat.{ℕ, zero, suc, _+_}
+use Prim.Native.Nat.{ℕ, zero, suc, _+_, _*_, _/_, _%_}
 use mathlib.Core.Path.{_≡_}
-use mathlib.Core.List.{List, [], _∷_}
-use lib.ListN.{getD, take, drop}
+use mathlib.Core.Bool.{Bool, true, _||_}
+use mathlib.Core.List.{List, [], _∷_, _++_}
+use lib.Dec.{eqb}
+use lib.ListN.{length, getD, take, drop}
 use Rattle.penne.specs.Reader.{Counts, Got, got, refused}
-use Rattle.penne.specs.Read.{readNames}
+use Rattle.penne.specs.Read.{readNames, amongNames}
 use Rattle.tree.specs.Answers.{cursor}
 use Rattle.tree.specs.declared.number.Read.{Read}
 use Rattle.tree.specs.declared.number.Read.the-variants.{Number, Refused}
@@ -45,3 +47,41 @@ afterOne count s from rest k (Refused i p) = refused i p
 pub record OneMore (count : ℕ) (s : List ℕ) (from at : ℕ) (r : Read) : Type 0 where
   pub is : (rest : ℕ) (k : Counts) → afterOne count s from rest k r ≡ readNames (suc rest) (namesFrom count s from) s (cursor at 0 k)
   pub ends : (v next : ℕ) → r ≡ Number v next → next ≡ namesEnd (suc count) s from
+
+-- HAS THE NAME BEEN MET?
+
+-- a name's number: which one is of no matter, as long as equal names have the same
+unfoldable pub hashFrom : (h : ℕ) → List ℕ → ℕ
+hashFrom h [] = h
+hashFrom h (b ∷ bs) = hashFrom ((h * 53 + b) % 67108864) bs
+
+abbrev pub hashOf : List ℕ → ℕ
+hashOf name = hashFrom 0 name
+
+-- what a name of number h leaves in its cell: not 0
+abbrev pub markOf : ℕ → ℕ
+markOf h = h / 2048 % 32768 + 1
+
+-- its cell holds its own mark, or 65535, where several were left
+unfoldable pub metBy : (cells : List ℕ) → (h : ℕ) → Bool
+metBy cells h = eqb (getD cells (h % 2048) 0) 65535 || eqb (getD cells (h % 2048) 0) (markOf h)
+
+-- of 2048 cells, h is marked, and what was stays so
+pub record Marks (cells : List ℕ) (h : ℕ) (after : List ℕ) : Type 0 where
+  pub long : length after ≡ length cells
+  pub has : length cells ≡ 2048 → metBy after h ≡ true
+  pub keeps : length cells ≡ 2048 → (j : ℕ) → metBy cells j ≡ true → metBy after j ≡ true
+
+-- all these names are marked
+pub record Marked (cells : List ℕ) (names : List (List ℕ)) : Type 0 where
+  pub long : length cells ≡ 2048
+  pub is : (y : List ℕ) → amongNames y names ≡ true → metBy cells (hashOf y) ≡ true
+
+-- r says whether the name is among the names, and it is marked beside them
+pub record Knows (names : List (List ℕ)) (name : List ℕ) (r : Bool) (cells : List ℕ) : Type 0 where
+  pub is : r ≡ amongNames name names
+  pub marked : Marked cells (names ++ (name ∷ []))
+
+-- behind a name that passes, it is marked beside those before it
+pub record Noted (count : ℕ) (s : List ℕ) (from : ℕ) (r : Read) (cells : List ℕ) : Type 0 where
+  pub marked : (v next : ℕ) → r ≡ Number v next → Marked cells (namesFrom (suc count) s from)

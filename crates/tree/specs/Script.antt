@@ -2,13 +2,13 @@
 use Prim.Native.Nat.{ℕ}
 use mathlib.Core.Path.{_≡_}
 use mathlib.Core.Bool.{true, false}
-use mathlib.Core.List.{List}
+use mathlib.Core.List.{List, []}
 use mathlib.Core.Option.{Option, none, some}
 use lib.Dec.{ltb}
 use lib.ListN.{length}
 use Rattle.penne.specs.Reader.{Counts, Cur, Got, got, refused, Reader, _>>=_, ret, num, below, many, each, nothing}
 use Rattle.penne.specs.Tree.{Spot, Decl, Tree}
-use Rattle.penne.specs.Read.{DeclKind, kConstant, kFunction, kFunctionHead, kStructure, kImport, kBadDecl, readDecl, readTree, decode, incoming, answered}
+use Rattle.penne.specs.Read.{DeclKind, kConstant, kFunction, kFunctionHead, kStructure, kImport, kBadDecl, readDecl, readNames, readTree, decode, incoming, answered}
 use Rattle.tree.specs.declared.number.Read.{Read}
 use Rattle.tree.specs.declared.number.Read.the-variants as R
 use Rattle.tree.specs.declared.script.Layout.{Layout}
@@ -44,6 +44,10 @@ start = cursor 0 0 nothing
 -- the parts of s stand where l says: behind the declarations only the depths are left to read
 pub record LaidOut (s : List ℕ) (l : Layout) : Type 0 where
   pub table : List (List ℕ)
+  pub begin : ℕ  -- where the first name begins
+  pub behind : Cur  -- what follows the last name
+  pub counted : num s start ≡ got (l .names) (cursor begin 0 nothing)
+  pub named : readNames (l .names) [] s (cursor begin 0 nothing) ≡ got table behind
   pub decls : List (Decl Spot)
   pub counts : Counts
   pub read : many readDecl (l .count) s (cursor (l .first) (l .names) nothing) ≡ got decls (cursor (l .depths) (l .names) counts)
@@ -62,11 +66,6 @@ notLaidBy (R.Refused n p) = L.Refused n p
 abbrev pub unlaidBy : Laid → Verdict
 unlaidBy (L.Out l) = W.Passes
 unlaidBy (L.Refused n p) = W.Refused n p
-
--- row 10 behind the last depth
-unfoldable pub endedBy : List ℕ → Read → Verdict
-endedBy s (R.Number v next) = elim (ltb next (length s)) [ true ↦ W.Refused 10 next | false ↦ W.Passes ]
-endedBy s (R.Refused n p) = W.Refused n p
 
 -- THE DEPTHS
 
@@ -87,16 +86,27 @@ pub record IncomingDepths (s : List ℕ) (count at : ℕ) (r : Read) : Type 0 wh
 pub record AnsweredDepths (s : List ℕ) (l : Layout) (r : Read) : Type 0 where
   pub ends : (ds : List (Decl Spot)) (c : Cur) → many readDecl (l .count) s (cursor (l .first) (l .names) nothing) ≡ got ds c → Ends (each answered ds) s (l .names) (l .depths) r
 
--- s decodes as an answered tree, and its parts stand where l says
-pub record Decoded (s : List ℕ) (l : Layout) : Type 0 where
+-- s decodes with the depths read so, and its parts stand where l says
+pub record DecodedAs (depth : Decl Spot → Reader ℕ) (s : List ℕ) (l : Layout) : Type 0 where
   pub laid : LaidOut s l
   pub depths : List ℕ
   pub end : Cur
-  pub read : each answered (laid .decls) s (cursor (l .depths) (l .names) (laid .counts)) ≡ got depths end
+  pub read : each depth (laid .decls) s (cursor (l .depths) (l .names) (laid .counts)) ≡ got depths end
   pub short : ltb 65535 (length s) ≡ false
-  pub decoded : decode answered s ≡ got (record { names = laid .table; decls = laid .decls; depths = depths }) end
+  pub decoded : decode depth s ≡ got (record { names = laid .table; decls = laid .decls; depths = depths }) end
 
--- r is where the parts of an answered tree stand, or its refusal
-pub record AnsweredLayout (s : List ℕ) (r : Laid) : Type 0 where
-  pub out : (l : Layout) → r ≡ L.Out l → Decoded s l
-  pub not : (n p : ℕ) → r ≡ L.Refused n p → refusal answered s ≡ some (n, p)
+-- r is where the parts of a tree stand, or its refusal
+pub record LayoutAs (depth : Decl Spot → Reader ℕ) (s : List ℕ) (r : Laid) : Type 0 where
+  pub out : (l : Layout) → r ≡ L.Out l → DecodedAs depth s l
+  pub not : (n p : ℕ) → r ≡ L.Refused n p → refusal depth s ≡ some (n, p)
+
+-- an answered tree
+abbrev pub Decoded : List ℕ → Layout → Type 0
+Decoded s l = DecodedAs answered s l
+
+abbrev pub AnsweredLayout : List ℕ → Laid → Type 0
+AnsweredLayout s r = LayoutAs answered s r
+
+-- a tree as it comes in
+abbrev pub IncomingLayout : List ℕ → Laid → Type 0
+IncomingLayout s r = LayoutAs incoming s r

@@ -18,7 +18,7 @@ use script::lay_out;
 use script::not_laid;
 ghost use mathlib.Core.Path.{_≡_};
 ghost use Rattle.penne.specs.Read.{incoming, answered};
-ghost use Rattle.tree.specs.Script.{verdictOf, refusal, unlaidBy, endedBy, AnsweredLayout};
+ghost use Rattle.tree.specs.Script.{verdictOf, refusal, unlaidBy, IncomingLayout, AnsweredLayout};
 
 pub enum Verdict {
     Passes,
@@ -29,16 +29,30 @@ pub enum Verdict {
 pub fn incoming(tree: &[u8]) -> Verdict
     ensures { λ r. ⌜ verdictOf r ≡ refusal incoming (now (tree .entry)) ⌝ }
 {
+    unlaid(incoming_layout(tree))
+}
+
+// The same, with where its parts stand.
+pub fn incoming_layout(tree: &[u8]) -> Laid
+    ensures { λ r. ⌜ IncomingLayout (now (tree .entry)) r ⌝ }
+{
     if 65535 < tree.len() {
-        return Verdict::Refused(1, 0);
+        return Laid::Refused(1, 0);
     }
     let laid = lay_out(tree);
     let Laid::Out(l) = laid else {
-        return unlaid(laid);
+        return laid;
     };
     let count = l.count;
     let at = l.depths;
-    ended(tree, incoming_depths(tree, count, at))
+    let depths = incoming_depths(tree, count, at);
+    let Read::Number(_, end) = depths else {
+        return not_laid(depths);
+    };
+    if end < tree.len() {
+        return Laid::Refused(10, end);
+    }
+    Laid::Out(l)
 }
 
 // The tree as an answer has it: constants and structures may have any depth.
@@ -75,21 +89,5 @@ fn unlaid(laid: Laid) -> Verdict
     match laid {
         Laid::Refused(number, place) => Verdict::Refused(number, place),
         Laid::Out(_) => Verdict::Passes,
-    }
-}
-
-// Row 10: nothing is left behind the depths.
-fn ended(tree: &[u8], depths: Read) -> Verdict
-    ensures { λ r. ⌜ r ≡ endedBy (now (tree .entry)) depths ⌝ }
-{
-    match depths {
-        Read::Refused(number, place) => Verdict::Refused(number, place),
-        Read::Number(_, at) => {
-            if at < tree.len() {
-                Verdict::Refused(10, at)
-            } else {
-                Verdict::Passes
-            }
-        }
     }
 }

@@ -9,6 +9,7 @@ pub mod deep;
 pub mod dice;
 mod flow;
 pub mod form;
+pub mod heavy;
 pub mod limits;
 pub mod random;
 pub mod sheet;

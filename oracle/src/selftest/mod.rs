@@ -19,6 +19,8 @@ pub fn selftest(count: usize, seed: u64) -> String {
 /// The same, smaller, for `cargo test`.
 #[cfg(test)]
 mod tests {
+    use crate::passes::List;
+
     /// Deep trees want more stack than a test has.
     fn with_stack(check: fn()) {
         let builder = std::thread::Builder::new().stack_size(crate::STACK);
@@ -43,6 +45,43 @@ mod tests {
     #[test]
     fn findings() {
         with_stack(super::limits::findings);
+    }
+
+    #[test]
+    fn heavy_trees_pass_in_the_sheets_room() {
+        with_stack(|| {
+            for (name, tree) in crate::generate::heavy::all() {
+                let scoped = crate::passes::scope(&tree, crate::passes::BENCH, List::Pruning);
+                assert_eq!(scoped.err(), None, "{name}");
+            }
+        });
+    }
+
+    #[test]
+    fn answer_cases_are_within_bounds() {
+        with_stack(|| {
+            let cases = crate::answers::answer_cases(1_200, 1);
+            assert_eq!(cases, crate::answers::answer_cases(1_200, 1), "the same seed, the same");
+            assert!(cases.len() < 400_000);
+            let (mut at, mut numbers) = (0, [0; 13]);
+            while at < cases.len() {
+                let header = cases[at..at + 32].chunks(4);
+                let header: Vec<usize> = header
+                    .map(|four| u32::from_le_bytes(four.try_into().unwrap()) as usize)
+                    .collect();
+                let [tree, answer, list, work, number, _, length, records] = header[..] else {
+                    unreachable!()
+                };
+                let most = crate::answers::MOST;
+                assert!(answer <= most.answer && list <= most.list && work <= most.work);
+                numbers[number] += 1;
+                let tree = if number == 1 { 0 } else { tree };
+                at += 32 + tree + length + 8 * records;
+            }
+            assert_eq!(at, cases.len());
+            assert_eq!(numbers.iter().sum::<i32>(), 1_200);
+            assert!(numbers[0] > 500 && numbers.iter().all(|cases| *cases > 0), "{numbers:?}");
+        });
     }
 
     #[test]

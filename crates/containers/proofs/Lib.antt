@@ -1,0 +1,11 @@
+pub mod Lists
+pub mod Changing
+pub mod Finding
+pub mod Parts
+pub mod Pushing
+pub mod Joining
+pub mod Following
+pub mod Marking
+pub mod Deepening
+pub mod Rounding
+pub mod Starting

@@ -1,0 +1,5 @@
+pub mod Table
+pub mod Calls
+pub mod Functions
+pub mod Bits
+pub mod Depths

@@ -1,0 +1,495 @@
+// analyze of Expression, Array, Reference and ReferenceStep, which hold one another. `left` is how many levels of nesting are left.
+// Where a part cannot be read the walk stops there: the tree was read before, so that this does not happen.
+use answer::copy::then_copy;
+use answer::copy::then_head;
+use answer::copy::then_numbers;
+use answer::number::then_number;
+use types::Typed;
+use types::maybe_type;
+use types::value_type;
+use tree::field::Identified;
+use tree::field::Identifier;
+use tree::field::operator;
+use tree::field::past_identifier;
+use tree::field::raw;
+use tree::field::read_identifier;
+use tree::field::two_places;
+use tree::node::expression as past_expression;
+use tree::number::Read;
+use tree::number::below;
+use tree::number::number;
+use tree::poison::maybe_identifier;
+use tree::value_type::carried;
+use walk::fault::Fault;
+use walk::items::copy_poison;
+use walk::items::write_fault;
+use walk::items::write_identifier;
+use walk::items::write_ok;
+use walk::names::Named;
+use walk::names::Used;
+use walk::names::closed;
+use walk::names::numbered;
+use walk::names::opened;
+use walk::names::use_called;
+use walk::names::use_variable;
+use walk::state::Walk;
+
+pub fn expression(tree: &[u8], answer: &mut [u8], list: &mut [u32], work: &mut [u32], st: Walk, left: u32) -> Walk {
+    let at = st.at;
+    let kind = below(tree, 16, at);
+    let Read::Number(k, a) = kind else {
+        return st;
+    };
+    if left == 0 {
+        return st;
+    }
+    expression_of(tree, answer, list, work, st.moved(a), left - 1, k)
+}
+
+// What follows an expression's kind.
+fn expression_of(tree: &[u8], answer: &mut [u8], list: &mut [u32], work: &mut [u32], st: Walk, left: u32, kind: u32) -> Walk {
+    match kind {
+        0 => binary(tree, answer, list, work, st, left),
+        1 => unary(tree, answer, list, work, st, left),
+        2 => boolean(tree, answer, st),
+        3 => integer(tree, answer, st, left, 3),
+        4 => integer(tree, answer, st, left, 4),
+        5 => string(tree, answer, st),
+        6 => array_literal(tree, answer, list, work, st, left),
+        7 => structural(tree, answer, list, work, st, left),
+        8 => parenthesized(tree, answer, list, work, st, left),
+        9 => deref(tree, answer, list, work, st, left),
+        10 => bit_cast(tree, answer, list, work, st, left),
+        11 => type_cast(tree, answer, list, work, st, left),
+        12 => length_of_array(tree, answer, list, work, st, left),
+        13 => size_of(tree, answer, work, st, left),
+        14 => function_call(tree, answer, list, work, st, left),
+        _ => copy_poison(tree, answer, st, 15),
+    }
+}
+
+fn binary(tree: &[u8], answer: &mut [u8], list: &mut [u32], work: &mut [u32], st: Walk, left: u32) -> Walk {
+    let at = st.at;
+    let op = operator(tree, at);
+    let Read::Number(_, a) = op else {
+        return st;
+    };
+    let w = st.wrote;
+    let x = then_head(answer, w, 0, tree, at, a);
+    let s = expression(tree, answer, list, work, st.wrote(x).moved(a), left);
+    expression(tree, answer, list, work, s, left)
+}
+
+fn unary(tree: &[u8], answer: &mut [u8], list: &mut [u32], work: &mut [u32], st: Walk, left: u32) -> Walk {
+    let at = st.at;
+    let op = operator(tree, at);
+    let Read::Number(_, a) = op else {
+        return st;
+    };
+    let w = st.wrote;
+    let x = then_head(answer, w, 1, tree, at, a);
+    expression(tree, answer, list, work, st.wrote(x).moved(a), left)
+}
+
+fn boolean(tree: &[u8], answer: &mut [u8], st: Walk) -> Walk {
+    let at = st.at;
+    let value = below(tree, 2, at);
+    let Read::Number(_, a) = value else {
+        return st;
+    };
+    let place = number(tree, a);
+    let Read::Number(_, b) = place else {
+        return st;
+    };
+    let w = st.wrote;
+    let x = then_head(answer, w, 2, tree, at, b);
+    st.wrote(x).moved(b)
+}
+
+// A signed or a bit integer.
+fn integer(tree: &[u8], answer: &mut [u8], st: Walk, left: u32, kind: u32) -> Walk {
+    let at = st.at;
+    let value = raw(tree, at, 16);
+    let Read::Number(_, a) = value else {
+        return st;
+    };
+    let place = number(tree, a);
+    let Read::Number(_, b) = place else {
+        return st;
+    };
+    let typed = carried(tree, st.script.names, b, left);
+    let Read::Number(_, c) = typed else {
+        return st;
+    };
+    let w = st.wrote;
+    let x = then_number(answer, w, kind);
+    let y = then_copy(answer, x, tree, at, a);
+    let z = then_numbers(answer, y, tree, a, c);
+    st.wrote(z).moved(c)
+}
+
+fn string(tree: &[u8], answer: &mut [u8], st: Walk) -> Walk {
+    let at = st.at;
+    let length = number(tree, at);
+    let Read::Number(n, a) = length else {
+        return st;
+    };
+    let text = raw(tree, a, n);
+    let Read::Number(_, b) = text else {
+        return st;
+    };
+    let place = number(tree, b);
+    let Read::Number(p, c) = place else {
+        return st;
+    };
+    let w = st.wrote;
+    let x = then_head(answer, w, 5, tree, at, a);
+    let y = then_copy(answer, x, tree, a, b);
+    let z = then_number(answer, y, p);
+    st.wrote(z).moved(c)
+}
+
+// Its id is the next one behind its elements.
+fn array_literal(tree: &[u8], answer: &mut [u8], list: &mut [u32], work: &mut [u32], st: Walk, left: u32) -> Walk {
+    let at = st.at;
+    let place = number(tree, at);
+    let Read::Number(_, a) = place else {
+        return st;
+    };
+    let element = carried(tree, st.script.names, a, left);
+    let Read::Number(_, b) = element else {
+        return st;
+    };
+    let w = st.wrote;
+    let x = then_head(answer, w, 6, tree, at, b);
+    let s = expressions(tree, answer, list, work, opened(st.wrote(x).moved(b)), left);
+    array_id(tree, answer, closed(work, s, st))
+}
+
+fn array_id(tree: &[u8], answer: &mut [u8], st: Walk) -> Walk {
+    let at = st.at;
+    let id = number(tree, at);
+    let Read::Number(_, a) = id else {
+        return st;
+    };
+    let w = st.wrote;
+    let x = then_number(answer, w, st.tables.next_id);
+    numbered(st.wrote(x).moved(a))
+}
+
+fn structural(tree: &[u8], answer: &mut [u8], list: &mut [u32], work: &mut [u32], st: Walk, left: u32) -> Walk {
+    let at = st.at;
+    let place = number(tree, at);
+    let Read::Number(_, a) = place else {
+        return st;
+    };
+    let w = st.wrote;
+    let x = then_head(answer, w, 7, tree, at, a);
+    let s = items(tree, answer, list, work, st.wrote(x).moved(a), left);
+    maybe_type(tree, answer, work, s, left)
+}
+
+fn parenthesized(tree: &[u8], answer: &mut [u8], list: &mut [u32], work: &mut [u32], st: Walk, left: u32) -> Walk {
+    let at = st.at;
+    let place = number(tree, at);
+    let Read::Number(_, a) = place else {
+        return st;
+    };
+    let w = st.wrote;
+    let x = then_head(answer, w, 8, tree, at, a);
+    expression(tree, answer, list, work, st.wrote(x).moved(a), left)
+}
+
+fn deref(tree: &[u8], answer: &mut [u8], list: &mut [u32], work: &mut [u32], st: Walk, left: u32) -> Walk {
+    let at = st.at;
+    let typed = carried(tree, st.script.names, at, left);
+    let Read::Number(_, a) = typed else {
+        return st;
+    };
+    let w = st.wrote;
+    let x = then_head(answer, w, 9, tree, at, a);
+    reference(tree, answer, list, work, st.wrote(x).moved(a), left)
+}
+
+fn bit_cast(tree: &[u8], answer: &mut [u8], list: &mut [u32], work: &mut [u32], st: Walk, left: u32) -> Walk {
+    let at = st.at;
+    let places = two_places(tree, at);
+    let Read::Number(_, a) = places else {
+        return st;
+    };
+    let typed = carried(tree, st.script.names, a, left);
+    let Read::Number(_, b) = typed else {
+        return st;
+    };
+    let w = st.wrote;
+    let x = then_head(answer, w, 10, tree, at, b);
+    expression(tree, answer, list, work, st.wrote(x).moved(b), left)
+}
+
+// "A cast whose type is refused never looks at its operand."
+fn type_cast(tree: &[u8], answer: &mut [u8], list: &mut [u32], work: &mut [u32], st: Walk, left: u32) -> Walk {
+    let at = st.at;
+    let places = two_places(tree, at);
+    let Read::Number(_, a) = places else {
+        return st;
+    };
+    let w = st.wrote;
+    let x = then_head(answer, w, 11, tree, at, a);
+    let typed = value_type(tree, answer, work, st.wrote(x).moved(a), left);
+    match typed {
+        Typed::Fine(s) => expression(tree, answer, list, work, s, left),
+        Typed::Bad(s, fault) => past_operand(tree, answer, s.wrote(w), fault, left),
+    }
+}
+
+fn past_operand(tree: &[u8], answer: &mut [u8], st: Walk, fault: Fault, left: u32) -> Walk {
+    let at = st.at;
+    let operand = past_expression(tree, st.script.names, at, left);
+    let Read::Number(_, a) = operand else {
+        return st;
+    };
+    let w = st.wrote;
+    let x = write_fault(answer, w, 15, fault);
+    st.wrote(x).moved(a)
+}
+
+fn length_of_array(tree: &[u8], answer: &mut [u8], list: &mut [u32], work: &mut [u32], st: Walk, left: u32) -> Walk {
+    let at = st.at;
+    let place = number(tree, at);
+    let Read::Number(_, a) = place else {
+        return st;
+    };
+    let w = st.wrote;
+    let x = then_head(answer, w, 12, tree, at, a);
+    reference(tree, answer, list, work, st.wrote(x).moved(a), left)
+}
+
+fn size_of(tree: &[u8], answer: &mut [u8], work: &mut [u32], st: Walk, left: u32) -> Walk {
+    let at = st.at;
+    let place = number(tree, at);
+    let Read::Number(_, a) = place else {
+        return st;
+    };
+    let w = st.wrote;
+    let x = then_head(answer, w, 13, tree, at, a);
+    let typed = value_type(tree, answer, work, st.wrote(x).moved(a), left);
+    match typed {
+        Typed::Fine(s) => s,
+        Typed::Bad(s, fault) => s.wrote(write_fault(answer, w, 15, fault)),
+    }
+}
+
+// "Arguments of a call to an undefined function are analysed, then dropped with the call."
+fn function_call(tree: &[u8], answer: &mut [u8], list: &mut [u32], work: &mut [u32], st: Walk, left: u32) -> Walk {
+    let at = st.at;
+    let one = read_identifier(tree, st.script.names, at);
+    let Identified::Is(i, a) = one else {
+        return st;
+    };
+    let builtin = number(tree, a);
+    let Read::Number(n, b) = builtin else {
+        return st;
+    };
+    let typed = carried(tree, st.script.names, b, left);
+    let Read::Number(_, c) = typed else {
+        return st;
+    };
+    let called = use_called(work, st, i, n);
+    match called {
+        Used::As(made) => {
+            let s = call_head(tree, answer, st, 14, made, a, c);
+            expressions(tree, answer, list, work, s, left)
+        }
+        Used::Not(fault) => {
+            let w = st.wrote;
+            let s = expressions(tree, answer, list, work, st.moved(c), left);
+            s.wrote(write_fault(answer, w, 15, fault))
+        }
+    }
+}
+
+// The kind of a call, its name, and the numbers behind it.
+pub fn call_head(tree: &[u8], answer: &mut [u8], st: Walk, kind: u32, i: Identifier, from: usize, to: usize) -> Walk {
+    let w = st.wrote;
+    let x = then_number(answer, w, kind);
+    let y = write_identifier(answer, x, i);
+    let z = then_numbers(answer, y, tree, from, to);
+    st.wrote(z).moved(to)
+}
+
+// A list of expressions.
+pub fn expressions(tree: &[u8], answer: &mut [u8], list: &mut [u32], work: &mut [u32], st: Walk, left: u32) -> Walk {
+    let at = st.at;
+    let count = number(tree, at);
+    let Read::Number(n, a) = count else {
+        return st;
+    };
+    let w = st.wrote;
+    let x = then_number(answer, w, n);
+    let mut s = st.wrote(x).moved(a);
+    let mut rest = n;
+    while rest != 0 {
+        s = expression(tree, answer, list, work, s, left);
+        rest -= 1;
+    }
+    s
+}
+
+// The list of a structural literal's members.
+fn items(tree: &[u8], answer: &mut [u8], list: &mut [u32], work: &mut [u32], st: Walk, left: u32) -> Walk {
+    let at = st.at;
+    let count = number(tree, at);
+    let Read::Number(n, a) = count else {
+        return st;
+    };
+    let w = st.wrote;
+    let x = then_number(answer, w, n);
+    let mut s = st.wrote(x).moved(a);
+    let mut rest = n;
+    while rest != 0 {
+        s = item(tree, answer, list, work, s, left);
+        rest -= 1;
+    }
+    s
+}
+
+fn item(tree: &[u8], answer: &mut [u8], list: &mut [u32], work: &mut [u32], st: Walk, left: u32) -> Walk {
+    let at = st.at;
+    let identifier = maybe_identifier(tree, st.script.names, at);
+    let Read::Number(_, a) = identifier else {
+        return st;
+    };
+    let offset = number(tree, a);
+    let Read::Number(_, b) = offset else {
+        return st;
+    };
+    let w = st.wrote;
+    let x = then_numbers(answer, w, tree, at, b);
+    expression(tree, answer, list, work, st.wrote(x).moved(b), left)
+}
+
+pub fn reference(tree: &[u8], answer: &mut [u8], list: &mut [u32], work: &mut [u32], st: Walk, left: u32) -> Walk {
+    let at = st.at;
+    let depth = below(tree, 256, at);
+    let Read::Number(_, a) = depth else {
+        return st;
+    };
+    if left == 0 {
+        return st;
+    }
+    let places = two_places(tree, a);
+    let Read::Number(_, b) = places else {
+        return st;
+    };
+    let w = st.wrote;
+    let x = then_numbers(answer, w, tree, at, b);
+    let s = base(tree, answer, list, work, st.wrote(x).moved(b));
+    steps(tree, answer, list, work, s, left - 1)
+}
+
+// The base of a reference.
+fn base(tree: &[u8], answer: &mut [u8], list: &mut [u32], work: &mut [u32], st: Walk) -> Walk {
+    let at = st.at;
+    let tag = below(tree, 2, at);
+    let Read::Number(t, a) = tag else {
+        return st;
+    };
+    if t != 0 {
+        return copy_poison(tree, answer, st.moved(a), 1);
+    }
+    let one = read_identifier(tree, st.script.names, a);
+    let Identified::Is(i, b) = one else {
+        return st;
+    };
+    let used = use_variable(list, work, st, i, a);
+    written(answer, used, b)
+}
+
+// "Maybe identifier", as the name was looked up or declared; `at` is behind it.
+pub fn written(answer: &mut [u8], named: Named, at: usize) -> Walk {
+    match named {
+        Named::As(s, i) => {
+            let w = s.wrote;
+            let x = write_ok(answer, w, i);
+            s.wrote(x).moved(at)
+        }
+        Named::Not(s, fault) => {
+            let w = s.wrote;
+            let x = write_fault(answer, w, 1, fault);
+            s.wrote(x).moved(at)
+        }
+    }
+}
+
+fn steps(tree: &[u8], answer: &mut [u8], list: &mut [u32], work: &mut [u32], st: Walk, left: u32) -> Walk {
+    let at = st.at;
+    let count = number(tree, at);
+    let Read::Number(n, a) = count else {
+        return st;
+    };
+    let w = st.wrote;
+    let x = then_number(answer, w, n);
+    let mut s = st.wrote(x).moved(a);
+    let mut rest = n;
+    while rest != 0 {
+        s = step(tree, answer, list, work, s, left);
+        rest -= 1;
+    }
+    s
+}
+
+fn step(tree: &[u8], answer: &mut [u8], list: &mut [u32], work: &mut [u32], st: Walk, left: u32) -> Walk {
+    let at = st.at;
+    let kind = below(tree, 2, at);
+    let Read::Number(k, a) = kind else {
+        return st;
+    };
+    if left == 0 {
+        return st;
+    }
+    if k == 0 {
+        return element(tree, answer, list, work, st.moved(a), left - 1);
+    }
+    member(tree, answer, st.moved(a))
+}
+
+fn element(tree: &[u8], answer: &mut [u8], list: &mut [u32], work: &mut [u32], st: Walk, left: u32) -> Walk {
+    let at = st.at;
+    let endless = below(tree, 3, at);
+    let Read::Number(_, a) = endless else {
+        return st;
+    };
+    let w = st.wrote;
+    let x = then_head(answer, w, 0, tree, at, a);
+    expression(tree, answer, list, work, st.wrote(x).moved(a), left)
+}
+
+fn member(tree: &[u8], answer: &mut [u8], st: Walk) -> Walk {
+    let at = st.at;
+    let identifier = past_identifier(tree, st.script.names, at);
+    let Read::Number(_, a) = identifier else {
+        return st;
+    };
+    let offset = number(tree, a);
+    let Read::Number(_, b) = offset else {
+        return st;
+    };
+    let w = st.wrote;
+    let x = then_head(answer, w, 1, tree, at, b);
+    st.wrote(x).moved(b)
+}
+
+pub fn option_expression(tree: &[u8], answer: &mut [u8], list: &mut [u32], work: &mut [u32], st: Walk, left: u32) -> Walk {
+    let at = st.at;
+    let tag = below(tree, 2, at);
+    let Read::Number(t, a) = tag else {
+        return st;
+    };
+    let w = st.wrote;
+    let x = then_number(answer, w, t);
+    let s = st.wrote(x).moved(a);
+    if t == 0 {
+        return s;
+    }
+    expression(tree, answer, list, work, s, left)
+}

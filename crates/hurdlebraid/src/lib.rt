@@ -1,0 +1,94 @@
+// The C interface. A slice is a pointer and a count. `outcome` gets what fits of: the refusal's number (0: none), its place, then two values; what is left of it is zero.
+use scoper::Container;
+use scoper::Depth;
+use scoper::Named;
+use scoper::Scoped;
+use scoper::analyze;
+use scoper::get_container_depth;
+use scoper::is_container;
+use scoper::structure_name_at;
+
+// The values: the answer's length in bytes, the list's in records.
+#[no_mangle]
+pub extern "C" fn hurdlebraid_analyze(
+    tree: &[u8],
+    answer: &mut [u8],
+    list: &mut [u32],
+    work: &mut [u32],
+    outcome: &mut [u64],
+) {
+    let scoped = analyze(tree, answer, list, work);
+    match scoped {
+        Scoped::Answer(length, records) => {
+            tell(outcome, 0, 0, length as u64, records as u64);
+        }
+        Scoped::Refused(number, place) => {
+            tell(outcome, number as u64, place as u64, 0, 0);
+        }
+    }
+}
+
+// The values: the depth (`max` where there is none), and whether it is a container (0 or 1).
+#[no_mangle]
+pub extern "C" fn hurdlebraid_container_depth(
+    tree: &[u8],
+    declaration: u32,
+    max: u32,
+    outcome: &mut [u64],
+) {
+    let depth = get_container_depth(tree, declaration, max);
+    match depth {
+        Depth::Is(d) => {
+            tell(outcome, 0, 0, d as u64, contains(tree, declaration));
+        }
+        Depth::Refused(number, place) => {
+            tell(outcome, number as u64, place as u64, 0, 0);
+        }
+    }
+}
+
+fn contains(tree: &[u8], declaration: u32) -> u64 {
+    let container = is_container(tree, declaration);
+    match container {
+        Container::Is(is) => {
+            if is {
+                1
+            } else {
+                0
+            }
+        }
+        Container::Refused(_, _) => 0,
+    }
+}
+
+// The values: where the name begins in the tree, and its length; both 0 where the declaration is no structure.
+#[no_mangle]
+pub extern "C" fn hurdlebraid_structure_name(tree: &[u8], declaration: u32, outcome: &mut [u64]) {
+    let named = structure_name_at(tree, declaration);
+    match named {
+        Named::At(start, length) => {
+            tell(outcome, 0, 0, start as u64, length as u64);
+        }
+        Named::Refused(number, place) => {
+            tell(outcome, number as u64, place as u64, 0, 0);
+        }
+    }
+}
+
+fn tell(outcome: &mut [u64], number: u64, place: u64, first: u64, second: u64) {
+    let mut i = 0usize;
+    while i < outcome.len() {
+        outcome[i] = told(i, number, place, first, second);
+        i += 1;
+    }
+}
+
+fn told(i: usize, number: u64, place: u64, first: u64, second: u64) -> u64 {
+    match i {
+        0 => number,
+        1 => place,
+        2 => first,
+        3 => second,
+        _ => 0,
+    }
+}

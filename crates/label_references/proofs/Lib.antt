@@ -1,0 +1,12 @@
+pub mod Along
+pub mod Rowing
+pub mod Finding
+pub mod Visiting
+pub mod Leading
+pub mod Laying
+pub mod Keeping
+pub mod Growing
+pub mod Starting
+pub mod Deciding
+pub mod Marking
+pub mod Using

@@ -1,0 +1,10 @@
+pub mod Lists
+pub mod Words
+pub mod Heading
+pub mod Holding
+pub mod Scoping
+pub mod Finding
+pub mod Fating
+pub mod Becoming
+pub mod Jumping
+pub mod Analyzing

@@ -1,0 +1,4 @@
+pub mod Table
+pub mod Calls
+pub mod Jumps
+pub mod Mirror

@@ -1,0 +1,224 @@
+// analyze_type. A type is written whole, or nothing of it is, and its poison is told.
+use answer::number::then_number;
+use tree::field::Identified;
+use tree::field::read_identifier;
+use tree::number::Read;
+use tree::number::below;
+use tree::number::number;
+use walk::edges::Edge;
+use walk::edges::Holder;
+use walk::edges::found_container;
+use walk::fault::Fault;
+use walk::items::copy_poison;
+use walk::items::write_fault;
+use walk::items::write_identifier;
+use walk::names::Used;
+use walk::names::use_constant;
+use walk::names::use_struct;
+use walk::state::Walk;
+
+// In both cases the walk is behind the type; where it is bad, the answer is as long as before it.
+pub enum Typed {
+    Fine(Walk),
+    Bad(Walk, Fault),
+}
+
+pub fn value_type(tree: &[u8], answer: &mut [u8], work: &mut [u32], st: Walk, left: u32) -> Typed {
+    let at = st.at;
+    let kind = below(tree, 26, at);
+    let Read::Number(k, a) = kind else {
+        return Typed::Fine(st);
+    };
+    if left == 0 {
+        return Typed::Fine(st);
+    }
+    type_of(tree, answer, work, st.moved(a), left - 1, k)
+}
+
+// What follows a type's kind.
+fn type_of(tree: &[u8], answer: &mut [u8], work: &mut [u32], st: Walk, left: u32, kind: u32) -> Typed {
+    match kind {
+        0..=13 => plain(answer, st, kind),
+        14 => array(tree, answer, work, st, left),
+        15 => array_with_named_length(tree, answer, work, st, left),
+        16..=19 => element_of(tree, answer, work, st, left, kind),
+        20 => structure(tree, answer, work, st, kind),
+        21 => word(tree, answer, work, st),
+        22 => structure(tree, answer, work, st, kind),
+        23 => plain(answer, st, kind),
+        _ => element_of(tree, answer, work, st, left, kind),
+    }
+}
+
+fn plain(answer: &mut [u8], st: Walk, kind: u32) -> Typed {
+    let w = st.wrote;
+    Typed::Fine(st.wrote(then_number(answer, w, kind)))
+}
+
+// The kinds that hold one type and nothing else.
+fn element_of(tree: &[u8], answer: &mut [u8], work: &mut [u32], st: Walk, left: u32, kind: u32) -> Typed {
+    let w = st.wrote;
+    let a = then_number(answer, w, kind);
+    let element = value_type(tree, answer, work, st.wrote(a), left);
+    match element {
+        Typed::Fine(s) => Typed::Fine(s),
+        Typed::Bad(s, fault) => Typed::Bad(s.wrote(w), fault),
+    }
+}
+
+fn array(tree: &[u8], answer: &mut [u8], work: &mut [u32], st: Walk, left: u32) -> Typed {
+    let element = element_of(tree, answer, work, st, left, 14);
+    match element {
+        Typed::Fine(s) => array_length(tree, answer, s),
+        Typed::Bad(s, fault) => past_length(tree, s, fault),
+    }
+}
+
+fn array_length(tree: &[u8], answer: &mut [u8], st: Walk) -> Typed {
+    let at = st.at;
+    let length = number(tree, at);
+    let Read::Number(n, a) = length else {
+        return Typed::Fine(st);
+    };
+    let w = st.wrote;
+    Typed::Fine(st.wrote(then_number(answer, w, n)).moved(a))
+}
+
+fn past_length(tree: &[u8], st: Walk, fault: Fault) -> Typed {
+    let at = st.at;
+    let length = number(tree, at);
+    let Read::Number(_, a) = length else {
+        return Typed::Bad(st, fault);
+    };
+    Typed::Bad(st.moved(a), fault)
+}
+
+// An element before its named length.
+fn array_with_named_length(tree: &[u8], answer: &mut [u8], work: &mut [u32], st: Walk, left: u32) -> Typed {
+    let w = st.wrote;
+    let element = element_of(tree, answer, work, st, left, 15);
+    match element {
+        Typed::Fine(s) => {
+            let length = named_length(tree, answer, work, s);
+            match length {
+                Typed::Fine(r) => Typed::Fine(r),
+                Typed::Bad(r, fault) => Typed::Bad(r.wrote(w), fault),
+            }
+        }
+        Typed::Bad(s, fault) => past_name(tree, s, fault),
+    }
+}
+
+fn named_length(tree: &[u8], answer: &mut [u8], work: &mut [u32], st: Walk) -> Typed {
+    let at = st.at;
+    let one = read_identifier(tree, st.script.names, at);
+    let Identified::Is(i, a) = one else {
+        return Typed::Fine(st);
+    };
+    let used = use_constant(work, st, i);
+    written(answer, st.moved(a), used)
+}
+
+// A name as it was looked up.
+fn written(answer: &mut [u8], st: Walk, used: Used) -> Typed {
+    let w = st.wrote;
+    match used {
+        Used::As(i) => Typed::Fine(st.wrote(write_identifier(answer, w, i))),
+        Used::Not(fault) => Typed::Bad(st, fault),
+    }
+}
+
+fn past_name(tree: &[u8], st: Walk, fault: Fault) -> Typed {
+    let at = st.at;
+    let one = read_identifier(tree, st.script.names, at);
+    let Identified::Is(_, a) = one else {
+        return Typed::Bad(st, fault);
+    };
+    Typed::Bad(st.moved(a), fault)
+}
+
+// Struct (20), Word (21) without its size, UnresolvedStructOrWord (22).
+fn structure(tree: &[u8], answer: &mut [u8], work: &mut [u32], st: Walk, kind: u32) -> Typed {
+    let at = st.at;
+    let w = st.wrote;
+    let one = read_identifier(tree, st.script.names, at);
+    let Identified::Is(i, a) = one else {
+        return Typed::Fine(st);
+    };
+    let used = use_struct(work, st, i);
+    match used {
+        Used::As(made) => {
+            let x = then_number(answer, w, kind);
+            let y = write_identifier(answer, x, made);
+            Typed::Fine(st.wrote(y).moved(a))
+        }
+        Used::Not(fault) => Typed::Bad(st.moved(a), fault),
+    }
+}
+
+fn word(tree: &[u8], answer: &mut [u8], work: &mut [u32], st: Walk) -> Typed {
+    let name = structure(tree, answer, work, st, 21);
+    match name {
+        Typed::Fine(s) => array_length(tree, answer, s),
+        Typed::Bad(s, fault) => past_length(tree, s, fault),
+    }
+}
+
+// A type that may be poison.
+pub fn maybe_type(tree: &[u8], answer: &mut [u8], work: &mut [u32], st: Walk, left: u32) -> Walk {
+    let at = st.at;
+    let tag = below(tree, 2, at);
+    let Read::Number(t, a) = tag else {
+        return st;
+    };
+    if t != 0 {
+        return copy_poison(tree, answer, st.moved(a), 1);
+    }
+    let w = st.wrote;
+    let x = then_number(answer, w, 0);
+    let typed = value_type(tree, answer, work, st.wrote(x).moved(a), left);
+    match typed {
+        Typed::Fine(s) => s,
+        Typed::Bad(s, fault) => s.wrote(write_fault(answer, w, 1, fault)),
+    }
+}
+
+// A declared variable's type: option maybe type.
+pub fn option_type(tree: &[u8], answer: &mut [u8], work: &mut [u32], st: Walk, left: u32) -> Walk {
+    let at = st.at;
+    let tag = below(tree, 2, at);
+    let Read::Number(t, a) = tag else {
+        return st;
+    };
+    let w = st.wrote;
+    let s = st.wrote(then_number(answer, w, t)).moved(a);
+    if t == 0 {
+        return s;
+    }
+    maybe_type(tree, answer, work, s, left)
+}
+
+// The type of a constant or member, with found_container over it where it is fine.
+pub fn contained_type(tree: &[u8], answer: &mut [u8], work: &mut [u32], st: Walk, holder: Holder, left: u32) -> Walk {
+    let at = st.at;
+    let tag = below(tree, 2, at);
+    let Read::Number(t, a) = tag else {
+        return st;
+    };
+    if t != 0 {
+        return copy_poison(tree, answer, st.moved(a), 1);
+    }
+    let w = st.wrote;
+    let x = then_number(answer, w, 0);
+    let typed = value_type(tree, answer, work, st.wrote(x).moved(a), left);
+    match typed {
+        Typed::Fine(s) => {
+            let edge = found_container(tree, work, s.script, holder, a, left);
+            match edge {
+                Edge::Fine => s,
+                Edge::Bad(fault) => s.wrote(write_fault(answer, w, 1, fault)),
+            }
+        }
+        Typed::Bad(s, fault) => s.wrote(write_fault(answer, w, 1, fault)),
+    }
+}

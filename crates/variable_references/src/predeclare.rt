@@ -1,0 +1,88 @@
+// "Predeclaration runs over all declarations first": constants, structures, functions and heads take their ids.
+use containers::containers::Declared;
+use containers::containers::push_container;
+use containers::functions::push_function;
+use memory::layout::CONTAINERS;
+use memory::layout::CONTAINERS_END;
+use memory::layout::FUNCTIONS;
+use memory::layout::FUNCTIONS_END;
+use memory::layout::WORDS;
+use memory::words::next;
+use super::declaration::Head;
+use super::declaration::read_head;
+use tree::counts::Counts;
+use tree::counts::Passed;
+use tree::declaration::declaration as past_declaration;
+use tree::field::Identifier;
+use tree::number::Read;
+use tree::number::below;
+use tree::script::Layout;
+
+// What is counted when all is declared, and the next id.
+pub struct Predeclared {
+    pub counts: Counts,
+    pub next_id: u32,
+}
+
+pub fn predeclare_all(tree: &[u8], work: &mut [u32], layout: Layout) -> Predeclared {
+    let names = layout.names;
+    let mut rest = layout.count;
+    let mut at = layout.first;
+    let mut so_far = Counts {
+        containers: 0,
+        functions: 0,
+        entries: 0,
+        statements: 0,
+    };
+    let mut next_id = 1u32;
+    while rest != 0 {
+        next_id = predeclare(tree, work, names, so_far, at, next_id);
+        let one = past_declaration(tree, names, so_far, at);
+        let Passed::To(behind, more) = one else {
+            return Predeclared {
+                counts: so_far,
+                next_id: next_id,
+            };
+        };
+        at = behind;
+        so_far = more;
+        rest -= 1;
+    }
+    Predeclared {
+        counts: so_far,
+        next_id: next_id,
+    }
+}
+
+// The declaration at `at`; answers the id after it.
+fn predeclare(tree: &[u8], work: &mut [u32], names: u32, counts: Counts, at: usize, id: u32) -> u32 {
+    let kind = below(tree, 6, at);
+    let Read::Number(k, a) = kind else {
+        return id;
+    };
+    let head = read_head(tree, names, a, k);
+    let Head::Named(h) = head else {
+        return id;
+    };
+    let i = h.identifier;
+    push(work, k, counts, i, id);
+    next(id)
+}
+
+fn push(work: &mut [u32], kind: u32, counts: Counts, i: Identifier, id: u32) {
+    if work.len() < WORDS {
+        return;
+    }
+    let declared = Declared {
+        name: i.name,
+        place: i.place,
+        id: id,
+    };
+    let row = counts.containers as usize;
+    let place = counts.functions as usize;
+    match kind {
+        0 => push_container(&mut work[CONTAINERS..CONTAINERS_END], row, 0, declared),
+        3 => push_container(&mut work[CONTAINERS..CONTAINERS_END], row, 3, declared),
+        _ => push_function(&mut work[FUNCTIONS..FUNCTIONS_END], place, declared),
+    }
+}

@@ -1,0 +1,49 @@
+// Identifiers and poisons, as they are read and written.
+use answer::copy::then_head;
+use answer::identifier::then_identifier;
+use answer::number::then_number;
+use answer::wrote::Wrote;
+use super::fault::Fault;
+use super::fault::then_fault;
+use super::state::Walk;
+use tree::field::Identifier;
+use tree::number::Read;
+use tree::poison::poison;
+
+// The identifier made anew: its id and authority are overwritten, name and place stay.
+pub fn resolved(i: Identifier, id: u32, authority: u32) -> Identifier {
+    Identifier {
+        name: i.name,
+        place: i.place,
+        id: id,
+        authority: authority,
+    }
+}
+
+pub fn write_identifier(answer: &mut [u8], w: Wrote, i: Identifier) -> Wrote {
+    then_identifier(answer, w, i.name, i.place, i.id, i.authority)
+}
+
+// "Maybe X" that is X: an identifier.
+pub fn write_ok(answer: &mut [u8], w: Wrote, i: Identifier) -> Wrote {
+    let a = then_number(answer, w, 0);
+    write_identifier(answer, a, i)
+}
+
+// A kind or tag, then a poison: what stands in the place of a part that is dropped.
+pub fn write_fault(answer: &mut [u8], w: Wrote, kind: u32, fault: Fault) -> Wrote {
+    let a = then_number(answer, w, kind);
+    then_fault(answer, a, fault)
+}
+
+// A kind or tag, then the poison that came in.
+pub fn copy_poison(tree: &[u8], answer: &mut [u8], st: Walk, kind: u32) -> Walk {
+    let at = st.at;
+    let w = st.wrote;
+    let end = poison(tree, st.script.names, at);
+    let Read::Number(_, a) = end else {
+        return st;
+    };
+    let x = then_head(answer, w, kind, tree, at, a);
+    st.wrote(x).moved(a)
+}
