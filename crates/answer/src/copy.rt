@@ -76,14 +76,7 @@ pub fn then_numbers(out: &mut [u8], w: Wrote, tree: &[u8], from: usize, to: usiz
 }
 
 // A kind, and the tree's numbers behind it.
-pub fn then_head(
-    out: &mut [u8],
-    w: Wrote,
-    kind: u32,
-    tree: &[u8],
-    from: usize,
-    to: usize,
-) -> Wrote
+pub fn then_head(out: &mut [u8], w: Wrote, kind: u32, tree: &[u8], from: usize, to: usize) -> Wrote
     ensures { λ r. ⌜ Put w (numB kind ++ renumbered (now (tree .entry)) from to) (now (out .entry)) r (now (out .exit)) ⌝ }
 {
     let a = then_number(out, w, kind);

@@ -4,9 +4,6 @@ use answer::copy::then_copy;
 use answer::copy::then_head;
 use answer::copy::then_numbers;
 use answer::number::then_number;
-use types::Typed;
-use types::maybe_type;
-use types::value_type;
 use tree::field::Identified;
 use tree::field::Identifier;
 use tree::field::operator;
@@ -20,6 +17,9 @@ use tree::number::below;
 use tree::number::number;
 use tree::poison::maybe_identifier;
 use tree::value_type::carried;
+use types::Typed;
+use types::maybe_type;
+use types::value_type;
 use walk::fault::Fault;
 use walk::items::copy_poison;
 use walk::items::write_fault;
@@ -34,7 +34,14 @@ use walk::names::use_called;
 use walk::names::use_variable;
 use walk::state::Walk;
 
-pub fn expression(tree: &[u8], answer: &mut [u8], list: &mut [u32], work: &mut [u32], st: Walk, left: u32) -> Walk {
+pub fn expression(
+    tree: &[u8],
+    answer: &mut [u8],
+    list: &mut [u32],
+    work: &mut [u32],
+    st: Walk,
+    left: u32,
+) -> Walk {
     let at = st.at;
     let kind = below(tree, 16, at);
     let Read::Number(k, a) = kind else {
@@ -47,7 +54,15 @@ pub fn expression(tree: &[u8], answer: &mut [u8], list: &mut [u32], work: &mut [
 }
 
 // What follows an expression's kind.
-fn expression_of(tree: &[u8], answer: &mut [u8], list: &mut [u32], work: &mut [u32], st: Walk, left: u32, kind: u32) -> Walk {
+fn expression_of(
+    tree: &[u8],
+    answer: &mut [u8],
+    list: &mut [u32],
+    work: &mut [u32],
+    st: Walk,
+    left: u32,
+    kind: u32,
+) -> Walk {
     match kind {
         0 => binary(tree, answer, list, work, st, left),
         1 => unary(tree, answer, list, work, st, left),
@@ -68,7 +83,14 @@ fn expression_of(tree: &[u8], answer: &mut [u8], list: &mut [u32], work: &mut [u
     }
 }
 
-fn binary(tree: &[u8], answer: &mut [u8], list: &mut [u32], work: &mut [u32], st: Walk, left: u32) -> Walk {
+fn binary(
+    tree: &[u8],
+    answer: &mut [u8],
+    list: &mut [u32],
+    work: &mut [u32],
+    st: Walk,
+    left: u32,
+) -> Walk {
     let at = st.at;
     let op = operator(tree, at);
     let Read::Number(_, a) = op else {
@@ -80,7 +102,14 @@ fn binary(tree: &[u8], answer: &mut [u8], list: &mut [u32], work: &mut [u32], st
     expression(tree, answer, list, work, s, left)
 }
 
-fn unary(tree: &[u8], answer: &mut [u8], list: &mut [u32], work: &mut [u32], st: Walk, left: u32) -> Walk {
+fn unary(
+    tree: &[u8],
+    answer: &mut [u8],
+    list: &mut [u32],
+    work: &mut [u32],
+    st: Walk,
+    left: u32,
+) -> Walk {
     let at = st.at;
     let op = operator(tree, at);
     let Read::Number(_, a) = op else {
@@ -150,7 +179,14 @@ fn string(tree: &[u8], answer: &mut [u8], st: Walk) -> Walk {
 }
 
 // Its id is the next one behind its elements.
-fn array_literal(tree: &[u8], answer: &mut [u8], list: &mut [u32], work: &mut [u32], st: Walk, left: u32) -> Walk {
+fn array_literal(
+    tree: &[u8],
+    answer: &mut [u8],
+    list: &mut [u32],
+    work: &mut [u32],
+    st: Walk,
+    left: u32,
+) -> Walk {
     let at = st.at;
     let place = number(tree, at);
     let Read::Number(_, a) = place else {
@@ -177,7 +213,14 @@ fn array_id(tree: &[u8], answer: &mut [u8], st: Walk) -> Walk {
     numbered(st.wrote(x).moved(a))
 }
 
-fn structural(tree: &[u8], answer: &mut [u8], list: &mut [u32], work: &mut [u32], st: Walk, left: u32) -> Walk {
+fn structural(
+    tree: &[u8],
+    answer: &mut [u8],
+    list: &mut [u32],
+    work: &mut [u32],
+    st: Walk,
+    left: u32,
+) -> Walk {
     let at = st.at;
     let place = number(tree, at);
     let Read::Number(_, a) = place else {
@@ -189,7 +232,14 @@ fn structural(tree: &[u8], answer: &mut [u8], list: &mut [u32], work: &mut [u32]
     maybe_type(tree, answer, work, s, left)
 }
 
-fn parenthesized(tree: &[u8], answer: &mut [u8], list: &mut [u32], work: &mut [u32], st: Walk, left: u32) -> Walk {
+fn parenthesized(
+    tree: &[u8],
+    answer: &mut [u8],
+    list: &mut [u32],
+    work: &mut [u32],
+    st: Walk,
+    left: u32,
+) -> Walk {
     let at = st.at;
     let place = number(tree, at);
     let Read::Number(_, a) = place else {
@@ -200,7 +250,14 @@ fn parenthesized(tree: &[u8], answer: &mut [u8], list: &mut [u32], work: &mut [u
     expression(tree, answer, list, work, st.wrote(x).moved(a), left)
 }
 
-fn deref(tree: &[u8], answer: &mut [u8], list: &mut [u32], work: &mut [u32], st: Walk, left: u32) -> Walk {
+fn deref(
+    tree: &[u8],
+    answer: &mut [u8],
+    list: &mut [u32],
+    work: &mut [u32],
+    st: Walk,
+    left: u32,
+) -> Walk {
     let at = st.at;
     let typed = carried(tree, st.script.names, at, left);
     let Read::Number(_, a) = typed else {
@@ -211,7 +268,14 @@ fn deref(tree: &[u8], answer: &mut [u8], list: &mut [u32], work: &mut [u32], st:
     reference(tree, answer, list, work, st.wrote(x).moved(a), left)
 }
 
-fn bit_cast(tree: &[u8], answer: &mut [u8], list: &mut [u32], work: &mut [u32], st: Walk, left: u32) -> Walk {
+fn bit_cast(
+    tree: &[u8],
+    answer: &mut [u8],
+    list: &mut [u32],
+    work: &mut [u32],
+    st: Walk,
+    left: u32,
+) -> Walk {
     let at = st.at;
     let places = two_places(tree, at);
     let Read::Number(_, a) = places else {
@@ -227,7 +291,14 @@ fn bit_cast(tree: &[u8], answer: &mut [u8], list: &mut [u32], work: &mut [u32], 
 }
 
 // "A cast whose type is refused never looks at its operand."
-fn type_cast(tree: &[u8], answer: &mut [u8], list: &mut [u32], work: &mut [u32], st: Walk, left: u32) -> Walk {
+fn type_cast(
+    tree: &[u8],
+    answer: &mut [u8],
+    list: &mut [u32],
+    work: &mut [u32],
+    st: Walk,
+    left: u32,
+) -> Walk {
     let at = st.at;
     let places = two_places(tree, at);
     let Read::Number(_, a) = places else {
@@ -253,7 +324,14 @@ fn past_operand(tree: &[u8], answer: &mut [u8], st: Walk, fault: Fault, left: u3
     st.wrote(x).moved(a)
 }
 
-fn length_of_array(tree: &[u8], answer: &mut [u8], list: &mut [u32], work: &mut [u32], st: Walk, left: u32) -> Walk {
+fn length_of_array(
+    tree: &[u8],
+    answer: &mut [u8],
+    list: &mut [u32],
+    work: &mut [u32],
+    st: Walk,
+    left: u32,
+) -> Walk {
     let at = st.at;
     let place = number(tree, at);
     let Read::Number(_, a) = place else {
@@ -280,7 +358,14 @@ fn size_of(tree: &[u8], answer: &mut [u8], work: &mut [u32], st: Walk, left: u32
 }
 
 // "Arguments of a call to an undefined function are analysed, then dropped with the call."
-fn function_call(tree: &[u8], answer: &mut [u8], list: &mut [u32], work: &mut [u32], st: Walk, left: u32) -> Walk {
+fn function_call(
+    tree: &[u8],
+    answer: &mut [u8],
+    list: &mut [u32],
+    work: &mut [u32],
+    st: Walk,
+    left: u32,
+) -> Walk {
     let at = st.at;
     let one = read_identifier(tree, st.script.names, at);
     let Identified::Is(i, a) = one else {
@@ -309,7 +394,15 @@ fn function_call(tree: &[u8], answer: &mut [u8], list: &mut [u32], work: &mut [u
 }
 
 // The kind of a call, its name, and the numbers behind it.
-pub fn call_head(tree: &[u8], answer: &mut [u8], st: Walk, kind: u32, i: Identifier, from: usize, to: usize) -> Walk {
+pub fn call_head(
+    tree: &[u8],
+    answer: &mut [u8],
+    st: Walk,
+    kind: u32,
+    i: Identifier,
+    from: usize,
+    to: usize,
+) -> Walk {
     let w = st.wrote;
     let x = then_number(answer, w, kind);
     let y = write_identifier(answer, x, i);
@@ -318,7 +411,14 @@ pub fn call_head(tree: &[u8], answer: &mut [u8], st: Walk, kind: u32, i: Identif
 }
 
 // A list of expressions.
-pub fn expressions(tree: &[u8], answer: &mut [u8], list: &mut [u32], work: &mut [u32], st: Walk, left: u32) -> Walk {
+pub fn expressions(
+    tree: &[u8],
+    answer: &mut [u8],
+    list: &mut [u32],
+    work: &mut [u32],
+    st: Walk,
+    left: u32,
+) -> Walk {
     let at = st.at;
     let count = number(tree, at);
     let Read::Number(n, a) = count else {
@@ -336,7 +436,14 @@ pub fn expressions(tree: &[u8], answer: &mut [u8], list: &mut [u32], work: &mut 
 }
 
 // The list of a structural literal's members.
-fn items(tree: &[u8], answer: &mut [u8], list: &mut [u32], work: &mut [u32], st: Walk, left: u32) -> Walk {
+fn items(
+    tree: &[u8],
+    answer: &mut [u8],
+    list: &mut [u32],
+    work: &mut [u32],
+    st: Walk,
+    left: u32,
+) -> Walk {
     let at = st.at;
     let count = number(tree, at);
     let Read::Number(n, a) = count else {
@@ -353,7 +460,14 @@ fn items(tree: &[u8], answer: &mut [u8], list: &mut [u32], work: &mut [u32], st:
     s
 }
 
-fn item(tree: &[u8], answer: &mut [u8], list: &mut [u32], work: &mut [u32], st: Walk, left: u32) -> Walk {
+fn item(
+    tree: &[u8],
+    answer: &mut [u8],
+    list: &mut [u32],
+    work: &mut [u32],
+    st: Walk,
+    left: u32,
+) -> Walk {
     let at = st.at;
     let identifier = maybe_identifier(tree, st.script.names, at);
     let Read::Number(_, a) = identifier else {
@@ -368,7 +482,14 @@ fn item(tree: &[u8], answer: &mut [u8], list: &mut [u32], work: &mut [u32], st: 
     expression(tree, answer, list, work, st.wrote(x).moved(b), left)
 }
 
-pub fn reference(tree: &[u8], answer: &mut [u8], list: &mut [u32], work: &mut [u32], st: Walk, left: u32) -> Walk {
+pub fn reference(
+    tree: &[u8],
+    answer: &mut [u8],
+    list: &mut [u32],
+    work: &mut [u32],
+    st: Walk,
+    left: u32,
+) -> Walk {
     let at = st.at;
     let depth = below(tree, 256, at);
     let Read::Number(_, a) = depth else {
@@ -421,7 +542,14 @@ pub fn written(answer: &mut [u8], named: Named, at: usize) -> Walk {
     }
 }
 
-fn steps(tree: &[u8], answer: &mut [u8], list: &mut [u32], work: &mut [u32], st: Walk, left: u32) -> Walk {
+fn steps(
+    tree: &[u8],
+    answer: &mut [u8],
+    list: &mut [u32],
+    work: &mut [u32],
+    st: Walk,
+    left: u32,
+) -> Walk {
     let at = st.at;
     let count = number(tree, at);
     let Read::Number(n, a) = count else {
@@ -438,7 +566,14 @@ fn steps(tree: &[u8], answer: &mut [u8], list: &mut [u32], work: &mut [u32], st:
     s
 }
 
-fn step(tree: &[u8], answer: &mut [u8], list: &mut [u32], work: &mut [u32], st: Walk, left: u32) -> Walk {
+fn step(
+    tree: &[u8],
+    answer: &mut [u8],
+    list: &mut [u32],
+    work: &mut [u32],
+    st: Walk,
+    left: u32,
+) -> Walk {
     let at = st.at;
     let kind = below(tree, 2, at);
     let Read::Number(k, a) = kind else {
@@ -453,7 +588,14 @@ fn step(tree: &[u8], answer: &mut [u8], list: &mut [u32], work: &mut [u32], st: 
     member(tree, answer, st.moved(a))
 }
 
-fn element(tree: &[u8], answer: &mut [u8], list: &mut [u32], work: &mut [u32], st: Walk, left: u32) -> Walk {
+fn element(
+    tree: &[u8],
+    answer: &mut [u8],
+    list: &mut [u32],
+    work: &mut [u32],
+    st: Walk,
+    left: u32,
+) -> Walk {
     let at = st.at;
     let endless = below(tree, 3, at);
     let Read::Number(_, a) = endless else {
@@ -479,7 +621,14 @@ fn member(tree: &[u8], answer: &mut [u8], st: Walk) -> Walk {
     st.wrote(x).moved(b)
 }
 
-pub fn option_expression(tree: &[u8], answer: &mut [u8], list: &mut [u32], work: &mut [u32], st: Walk, left: u32) -> Walk {
+pub fn option_expression(
+    tree: &[u8],
+    answer: &mut [u8],
+    list: &mut [u32],
+    work: &mut [u32],
+    st: Walk,
+    left: u32,
+) -> Walk {
     let at = st.at;
     let tag = below(tree, 2, at);
     let Read::Number(t, a) = tag else {

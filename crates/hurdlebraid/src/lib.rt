@@ -1,11 +1,9 @@
 // The C interface. A slice is a pointer and a count. `outcome` gets what fits of: the refusal's number (0: none), its place, then two values; what is left of it is zero.
-use scoper::Container;
 use scoper::Depth;
 use scoper::Named;
 use scoper::Scoped;
 use scoper::analyze;
 use scoper::get_container_depth;
-use scoper::is_container;
 use scoper::structure_name_at;
 
 // The values: the answer's length in bytes, the list's in records.
@@ -28,7 +26,7 @@ pub extern "C" fn hurdlebraid_analyze(
     }
 }
 
-// The values: the depth (`max` where there is none), and whether it is a container (0 or 1).
+// The values: the depth (`max` where there is none), and whether it is a container (0 or 1). No depth is as large as the maximum asked with.
 #[no_mangle]
 pub extern "C" fn hurdlebraid_container_depth(
     tree: &[u8],
@@ -36,28 +34,18 @@ pub extern "C" fn hurdlebraid_container_depth(
     max: u32,
     outcome: &mut [u64],
 ) {
-    let depth = get_container_depth(tree, declaration, max);
+    let depth = get_container_depth(tree, declaration, 4294967295);
     match depth {
         Depth::Is(d) => {
-            tell(outcome, 0, 0, d as u64, contains(tree, declaration));
+            if d < 4294967295 {
+                tell(outcome, 0, 0, d as u64, 1);
+            } else {
+                tell(outcome, 0, 0, max as u64, 0);
+            }
         }
         Depth::Refused(number, place) => {
             tell(outcome, number as u64, place as u64, 0, 0);
         }
-    }
-}
-
-fn contains(tree: &[u8], declaration: u32) -> u64 {
-    let container = is_container(tree, declaration);
-    match container {
-        Container::Is(is) => {
-            if is {
-                1
-            } else {
-                0
-            }
-        }
-        Container::Refused(_, _) => 0,
     }
 }
 

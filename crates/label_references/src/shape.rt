@@ -3,8 +3,8 @@
 // what is inside it (a goto's or a label's name; 1 + the number of an If's else branch, or of a block's last statement; 0 where there is none);
 // and the word for its outcome, where a label's place stands until it is visited. An If's then branch is the statement after it.
 use memory::layout::OUTCOMES;
-use memory::layout::SHAPE_KIND;
 use memory::layout::SHAPE_INSIDE;
+use memory::layout::SHAPE_KIND;
 use memory::layout::SHAPE_PREVIOUS;
 use memory::layout::SHAPES;
 use memory::words::set_word;

@@ -1,9 +1,9 @@
 // Both passes over a tree that the reader let pass.
+use super::Scoped;
 use answer::wrote::Wrote;
 use label_references::label_references;
 use memory::layout::WORDS;
 use memory::words::clear_words;
-use super::Scoped;
 use tree::incoming_layout;
 use tree::script::Laid;
 use tree::script::Layout;
@@ -33,7 +33,13 @@ pub fn scope(tree: &[u8], answer: &mut [u8], list: &mut [u32], work: &mut [u32])
     }
 }
 
-fn pass(tree: &[u8], answer: &mut [u8], list: &mut [u32], work: &mut [u32], layout: Layout) -> Scoped {
+fn pass(
+    tree: &[u8],
+    answer: &mut [u8],
+    list: &mut [u32],
+    work: &mut [u32],
+    layout: Layout,
+) -> Scoped {
     clear_words(work);
     label_references(tree, work, layout);
     let answered = variable_references(tree, answer, list, work, layout);

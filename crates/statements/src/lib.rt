@@ -3,6 +3,11 @@ use answer::copy::then_head;
 use answer::identifier::then_identifier;
 use answer::number::then_number;
 use answer::wrote::Wrote;
+use expressions::call_head;
+use expressions::expression;
+use expressions::expressions;
+use expressions::option_expression;
+use expressions::reference;
 use label_references::labels::outcome_of;
 use memory::layout::LABEL_PLACE;
 use memory::layout::SCOPES;
@@ -10,12 +15,6 @@ use memory::layout::SCOPES_END;
 use memory::layout::WORDS;
 use memory::words::word;
 use scopes::pruning::prepare_to_prune_at_goto;
-use expressions::call_head;
-use expressions::expression;
-use expressions::expressions;
-use expressions::option_expression;
-use expressions::reference;
-use types::option_type;
 use tree::counts::Counted;
 use tree::counts::count;
 use tree::counts::statement_counts;
@@ -26,6 +25,7 @@ use tree::field::read_identifier;
 use tree::number::Read;
 use tree::number::below;
 use tree::number::number;
+use types::option_type;
 use walk::fault::duplicate_label;
 use walk::fault::undefined;
 use walk::items::copy_poison;
@@ -41,7 +41,14 @@ use walk::names::opened;
 use walk::names::use_called;
 use walk::state::Walk;
 
-pub fn stmt(tree: &[u8], answer: &mut [u8], list: &mut [u32], work: &mut [u32], st: Walk, left: u32) -> Walk {
+pub fn stmt(
+    tree: &[u8],
+    answer: &mut [u8],
+    list: &mut [u32],
+    work: &mut [u32],
+    st: Walk,
+    left: u32,
+) -> Walk {
     let at = st.at;
     let kind = below(tree, 9, at);
     let Read::Number(k, a) = kind else {
@@ -55,11 +62,29 @@ pub fn stmt(tree: &[u8], answer: &mut [u8], list: &mut [u32], work: &mut [u32], 
     let Counted::Are(c) = more else {
         return st;
     };
-    statement_of(tree, answer, list, work, st.counted(c).moved(a), left - 1, k, counts.statements)
+    statement_of(
+        tree,
+        answer,
+        list,
+        work,
+        st.counted(c).moved(a),
+        left - 1,
+        k,
+        counts.statements,
+    )
 }
 
 // What follows a statement's kind; `n` is the statement's number.
-fn statement_of(tree: &[u8], answer: &mut [u8], list: &mut [u32], work: &mut [u32], st: Walk, left: u32, kind: u32, n: u32) -> Walk {
+fn statement_of(
+    tree: &[u8],
+    answer: &mut [u8],
+    list: &mut [u32],
+    work: &mut [u32],
+    st: Walk,
+    left: u32,
+    kind: u32,
+    n: u32,
+) -> Walk {
     match kind {
         0 => declaration(tree, answer, list, work, st, left),
         1 => assignment(tree, answer, list, work, st, left),
@@ -74,7 +99,14 @@ fn statement_of(tree: &[u8], answer: &mut [u8], list: &mut [u32], work: &mut [u3
 }
 
 // A duplicate's value and type are analysed, then dropped.
-fn declaration(tree: &[u8], answer: &mut [u8], list: &mut [u32], work: &mut [u32], st: Walk, left: u32) -> Walk {
+fn declaration(
+    tree: &[u8],
+    answer: &mut [u8],
+    list: &mut [u32],
+    work: &mut [u32],
+    st: Walk,
+    left: u32,
+) -> Walk {
     let at = st.at;
     let place = number(tree, at);
     let Read::Number(_, a) = place else {
@@ -108,7 +140,14 @@ fn declared(tree: &[u8], answer: &mut [u8], work: &mut [u32], st: Walk, before: 
     }
 }
 
-fn assignment(tree: &[u8], answer: &mut [u8], list: &mut [u32], work: &mut [u32], st: Walk, left: u32) -> Walk {
+fn assignment(
+    tree: &[u8],
+    answer: &mut [u8],
+    list: &mut [u32],
+    work: &mut [u32],
+    st: Walk,
+    left: u32,
+) -> Walk {
     let at = st.at;
     let place = number(tree, at);
     let Read::Number(_, a) = place else {
@@ -120,7 +159,14 @@ fn assignment(tree: &[u8], answer: &mut [u8], list: &mut [u32], work: &mut [u32]
     reference(tree, answer, list, work, s, left)
 }
 
-fn method_call(tree: &[u8], answer: &mut [u8], list: &mut [u32], work: &mut [u32], st: Walk, left: u32) -> Walk {
+fn method_call(
+    tree: &[u8],
+    answer: &mut [u8],
+    list: &mut [u32],
+    work: &mut [u32],
+    st: Walk,
+    left: u32,
+) -> Walk {
     let at = st.at;
     let one = read_identifier(tree, st.script.names, at);
     let Identified::Is(i, a) = one else {
@@ -185,7 +231,12 @@ fn prepare(work: &mut [u32], st: Walk, label: u32, place: u32) {
         return;
     }
     let next_id = st.tables.next_id;
-    prepare_to_prune_at_goto(&mut work[SCOPES..SCOPES_END], (label - 1) as usize, place, next_id);
+    prepare_to_prune_at_goto(
+        &mut work[SCOPES..SCOPES_END],
+        (label - 1) as usize,
+        place,
+        next_id,
+    );
 }
 
 // A goto or a label: its kind, its name, its place.
@@ -208,7 +259,12 @@ fn label(tree: &[u8], answer: &mut [u8], work: &mut [u32], st: Walk, n: u32) -> 
     let w = st.wrote;
     let outcome = outcome_of(work, n);
     if 1024 < outcome {
-        let x = write_fault(answer, w, 8, duplicate_label(i, label_place(work, outcome - 1024)));
+        let x = write_fault(
+            answer,
+            w,
+            8,
+            duplicate_label(i, label_place(work, outcome - 1024)),
+        );
         return st.wrote(x).moved(b);
     }
     prune(work, st, outcome);
@@ -239,7 +295,14 @@ fn prune(work: &mut [u32], st: Walk, label: u32) {
 }
 
 // An If.
-fn branches(tree: &[u8], answer: &mut [u8], list: &mut [u32], work: &mut [u32], st: Walk, left: u32) -> Walk {
+fn branches(
+    tree: &[u8],
+    answer: &mut [u8],
+    list: &mut [u32],
+    work: &mut [u32],
+    st: Walk,
+    left: u32,
+) -> Walk {
     let at = st.at;
     let place = number(tree, at);
     let Read::Number(_, a) = place else {
@@ -257,7 +320,14 @@ fn branches(tree: &[u8], answer: &mut [u8], list: &mut [u32], work: &mut [u32], 
     else_branch(tree, answer, list, work, q, left)
 }
 
-fn else_branch(tree: &[u8], answer: &mut [u8], list: &mut [u32], work: &mut [u32], st: Walk, left: u32) -> Walk {
+fn else_branch(
+    tree: &[u8],
+    answer: &mut [u8],
+    list: &mut [u32],
+    work: &mut [u32],
+    st: Walk,
+    left: u32,
+) -> Walk {
     let at = st.at;
     let tag = below(tree, 2, at);
     let Read::Number(t, a) = tag else {
@@ -276,7 +346,14 @@ fn else_branch(tree: &[u8], answer: &mut [u8], list: &mut [u32], work: &mut [u32
     stmt(tree, answer, list, work, st.wrote(x).moved(b), left)
 }
 
-fn block(tree: &[u8], answer: &mut [u8], list: &mut [u32], work: &mut [u32], st: Walk, left: u32) -> Walk {
+fn block(
+    tree: &[u8],
+    answer: &mut [u8],
+    list: &mut [u32],
+    work: &mut [u32],
+    st: Walk,
+    left: u32,
+) -> Walk {
     let at = st.at;
     let place = number(tree, at);
     let Read::Number(_, a) = place else {
@@ -289,7 +366,14 @@ fn block(tree: &[u8], answer: &mut [u8], list: &mut [u32], work: &mut [u32], st:
 }
 
 // A list of statements.
-pub fn statements(tree: &[u8], answer: &mut [u8], list: &mut [u32], work: &mut [u32], st: Walk, left: u32) -> Walk {
+pub fn statements(
+    tree: &[u8],
+    answer: &mut [u8],
+    list: &mut [u32],
+    work: &mut [u32],
+    st: Walk,
+    left: u32,
+) -> Walk {
     let at = st.at;
     let count = number(tree, at);
     let Read::Number(n, a) = count else {
@@ -325,7 +409,13 @@ fn body_id(tree: &[u8], answer: &mut [u8], st: Walk) -> Walk {
 }
 
 // A poisoned body stays.
-pub fn maybe_body(tree: &[u8], answer: &mut [u8], list: &mut [u32], work: &mut [u32], st: Walk) -> Walk {
+pub fn maybe_body(
+    tree: &[u8],
+    answer: &mut [u8],
+    list: &mut [u32],
+    work: &mut [u32],
+    st: Walk,
+) -> Walk {
     let at = st.at;
     let tag = below(tree, 2, at);
     let Read::Number(t, a) = tag else {

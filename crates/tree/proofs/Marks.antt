@@ -52,7 +52,7 @@ or-left a b e = ap (λ (t : Bool). t || b) e
 
 module _ (cells : List ℕ) (h : ℕ) where
   abbrev cell : ℕ
-  cell = getD cells (h % 2048) 0
+  cell = getD cells (h % 8192) 0
 
   pub met-several : cell ≡ 65535 → true ≡ metBy cells h
   unfolding metBy
@@ -74,36 +74,36 @@ module _ (cells : List ℕ) (h : ℕ) where
   met-free e = ap (λ (t : Bool). t || eqb cell (markOf h)) (ne-eqb cell 65535 (λ z. omega arith)) ∙ ne-eqb cell (markOf h) (λ z. omega arith)
 
 -- another cell stays as it was
-met-same : (cells after : List ℕ) (j : ℕ) → getD after (j % 2048) 0 ≡ getD cells (j % 2048) 0 → metBy cells j ≡ true → metBy after j ≡ true
+met-same : (cells after : List ℕ) (j : ℕ) → getD after (j % 8192) 0 ≡ getD cells (j % 8192) 0 → metBy cells j ≡ true → metBy after j ≡ true
 unfolding metBy
 met-same cells after j e h = ap (λ (x : ℕ). eqb x 65535 || eqb x (markOf j)) e ∙ h
 
 module _ (cells : List ℕ) (h : ℕ) where
   abbrev put : ℕ → List ℕ
-  put v = set cells (h % 2048) v
+  put v = set cells (h % 8192) v
 
-  module _ (l : length cells ≡ 2048) where
-    there : (v : ℕ) → getD (put v) (h % 2048) 0 ≡ v
-    there v = getD-set-same cells (h % 2048) v 0 (omega (arith, l))
+  module _ (l : length cells ≡ 8192) where
+    there : (v : ℕ) → getD (put v) (h % 8192) 0 ≡ v
+    there v = getD-set-same cells (h % 8192) v 0 (omega (arith, l))
 
   -- where its own cell stays so, all others do
-  keeps-all : (v : ℕ) → ((j : ℕ) → j % 2048 ≡ h % 2048 → metBy cells j ≡ true → metBy (put v) j ≡ true) → (j : ℕ) → metBy cells j ≡ true → metBy (put v) j ≡ true
-  keeps-all v here j m = go (ℕ-discrete (j % 2048) (h % 2048))
+  keeps-all : (v : ℕ) → ((j : ℕ) → j % 8192 ≡ h % 8192 → metBy cells j ≡ true → metBy (put v) j ≡ true) → (j : ℕ) → metBy cells j ≡ true → metBy (put v) j ≡ true
+  keeps-all v here j m = go (ℕ-discrete (j % 8192) (h % 8192))
     where
-      go : Dec (j % 2048 ≡ h % 2048) → metBy (put v) j ≡ true
+      go : Dec (j % 8192 ≡ h % 8192) → metBy (put v) j ≡ true
       go (yes e) = here j e m
-      go (no e) = met-same cells (put v) j (getD-set-other cells (h % 2048) (j % 2048) v 0 e) m
+      go (no e) = met-same cells (put v) j (getD-set-other cells (h % 8192) (j % 8192) v 0 e) m
 
-  pub marks-free : {v : ℕ} → getD cells (h % 2048) 0 ≡ 0 → v ≡ markOf h → Marks cells h (put v)
+  pub marks-free : {v : ℕ} → getD cells (h % 8192) 0 ≡ 0 → v ≡ markOf h → Marks cells h (put v)
   marks-free {v} e z = record {
-    long = length-set cells (h % 2048) v;
+    long = length-set cells (h % 8192) v;
     has = λ l. met-mark (put v) h (there l v ∙ z);
     keeps = λ l. keeps-all v λ j q m. true-not (sym m ∙ met-free cells j (ap (λ (k : ℕ). getD cells k 0) q ∙ e));
   }
 
   pub marks-several : Marks cells h (put 65535)
   marks-several = record {
-    long = length-set cells (h % 2048) 65535;
+    long = length-set cells (h % 8192) 65535;
     has = λ l. sym (met-several (put 65535) h (there l 65535));
     keeps = λ l. keeps-all 65535 λ j q m. sym (met-several (put 65535) j (ap (λ (k : ℕ). getD (put 65535) k 0) q ∙ there l 65535));
   }
@@ -121,7 +121,7 @@ among-case {X} y x (n ∷ ns) e f g = (elim (sameBytes y n) as (λ t. sameBytes 
   | false ↦ λ z h. among-case y x ns h (λ m. f (or-right (sameBytes y n) (amongNames y ns) m)) g
 ]) refl e
 
-pub marked-none : (cells : List ℕ) → length cells ≡ 2048 → Marked cells []
+pub marked-none : (cells : List ℕ) → length cells ≡ 8192 → Marked cells []
 unfolding amongNames
 marked-none cells l = record { long = l; is = λ y e. true-not (sym e) }
 

@@ -5,7 +5,7 @@ use native.Mathlib.Omega.{arith}
 use lib.ListN.{length, getD}
 use lib.Dec.{lit≤}
 use borrow.Author.Tests.{lt-ltb, le-ltb, eq-eqb, ne-eqb}
-use mathlib.Core.Path.{_≡_, refl, sym, ap, _∙_}
+use mathlib.Core.Path.{_≡_, refl, sym, ap, subst, _∙_}
 use mathlib.Core.Bool.{Bool, true, false}
 use mathlib.Core.List.{List}
 use Rattle.penne.specs.Reader.{Counts, Cur, Got, got, refused, Reader, num, groups, lastGroup, below, such, moved}
@@ -93,6 +93,20 @@ module _ {b w v start next : ℕ} where
   pub last-fits : v + b * w < 2 ^ 32 → (b ≡ 0 → ⊥) → Last b w v start next (Number (v + b * w) next)
   unfolding lastGroup numberOf moved
   last-fits h e = record { is = λ names k. sym (simp (lt-ltb (v + b * w) (2 ^ 32) h, ne-eqb b 0 e, lastGroup)) }
+
+-- A NUMBER OF ONE GROUP
+
+one-group : (b start next : ℕ) → b < 128 → Last b 1 0 start next (Number (0 + b * 1) next)
+one-group zero start next h = last-only (lit≤ tt) refl refl
+one-group (suc b) start next h = last-fits (omega arith) λ e. absurd (omega (arith, e))
+
+pub number-out : {s : List ℕ} {at : ℕ} → length s ≤ at → Gives num s at (Refused 3 at)
+number-out {s} {at} h = going-out (going-start s at) (lit≤ tt) h
+
+pub number-one : {s : List ℕ} {at b : ℕ} → at < length s → b ≡ getD s at 0 → b < 128 → Gives num s at (Number b (at + 1))
+number-one {s} {at} {b} h e k =
+    let q : 0 + b * 1 ≡ b = omega arith in
+    subst (λ (n : ℕ). Gives num s at (Number n (at + 1))) q (going-last (going-start s at) (lit≤ tt) h e k (one-group b at (at + 1) k))
 
 -- A NUMBER BELOW A LIMIT
 

@@ -60,21 +60,21 @@ hashOf name = hashFrom 0 name
 
 -- what a name of number h leaves in its cell: not 0
 abbrev pub markOf : ℕ → ℕ
-markOf h = h / 2048 % 32768 + 1
+markOf h = h / 8192 % 32768 + 1
 
 -- its cell holds its own mark, or 65535, where several were left
 unfoldable pub metBy : (cells : List ℕ) → (h : ℕ) → Bool
-metBy cells h = eqb (getD cells (h % 2048) 0) 65535 || eqb (getD cells (h % 2048) 0) (markOf h)
+metBy cells h = eqb (getD cells (h % 8192) 0) 65535 || eqb (getD cells (h % 8192) 0) (markOf h)
 
--- of 2048 cells, h is marked, and what was stays so
+-- of 8192 cells, h is marked, and what was stays so
 pub record Marks (cells : List ℕ) (h : ℕ) (after : List ℕ) : Type 0 where
   pub long : length after ≡ length cells
-  pub has : length cells ≡ 2048 → metBy after h ≡ true
-  pub keeps : length cells ≡ 2048 → (j : ℕ) → metBy cells j ≡ true → metBy after j ≡ true
+  pub has : length cells ≡ 8192 → metBy after h ≡ true
+  pub keeps : length cells ≡ 8192 → (j : ℕ) → metBy cells j ≡ true → metBy after j ≡ true
 
 -- all these names are marked
 pub record Marked (cells : List ℕ) (names : List (List ℕ)) : Type 0 where
-  pub long : length cells ≡ 2048
+  pub long : length cells ≡ 8192
   pub is : (y : List ℕ) → amongNames y names ≡ true → metBy cells (hashOf y) ≡ true
 
 -- r says whether the name is among the names, and it is marked beside them

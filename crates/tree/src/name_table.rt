@@ -86,15 +86,15 @@ fn value(byte: u8) -> u32
 }
 
 // Was a name of that number marked, as far as the cells tell?
-fn met(cells: &[u16; 2048], h: u32) -> bool
+fn met(cells: &[u16; 8192], h: u32) -> bool
     ensures { λ r. ⌜ r ≡ metBy (now (cells .entry)) h ⌝ }
 {
-    let i = (h % 2048) as usize;
+    let i = (h % 8192) as usize;
     let cell = held(cells[i]);
     if cell == 65535 {
         return true;
     }
-    cell == h / 2048 % 32768 + 1
+    cell == h / 8192 % 32768 + 1
 }
 
 fn held(cell: u16) -> u32
@@ -104,19 +104,19 @@ fn held(cell: u16) -> u32
 }
 
 // A cell holds 0, the mark of one number, or 65535 for several.
-fn mark(cells: &mut [u16; 2048], h: u32)
+fn mark(cells: &mut [u16; 8192], h: u32)
     ensures { λ _. ⌜ Marks (now (cells .entry)) h (now (cells .exit)) ⌝ }
 {
-    let i = (h % 2048) as usize;
+    let i = (h % 8192) as usize;
     if cells[i] == 0 {
-        cells[i] = (h / 2048 % 32768 + 1) as u16;
+        cells[i] = (h / 8192 % 32768 + 1) as u16;
     } else {
         cells[i] = 65535;
     }
 }
 
 // What `among` says, which looks only where a name of the same number was met. The name is marked.
-fn known(tree: &[u8], cells: &mut [u16; 2048], name: &[u8], from: usize, count: u32) -> bool
+fn known(tree: &[u8], cells: &mut [u16; 8192], name: &[u8], from: usize, count: u32) -> bool
     requires { ⌜ (namesEnd count (now tree) from ≤ length (now tree)) × Marked (now cells) (namesFrom count (now tree) from) ⌝ }
     ensures { λ r. ⌜ Knows (namesFrom count (now (tree .entry)) from) (now (name .entry)) r (now (cells .exit)) ⌝ }
 {
@@ -129,7 +129,7 @@ fn known(tree: &[u8], cells: &mut [u16; 2048], name: &[u8], from: usize, count: 
 }
 
 // One name more at `at`, behind `count` names of which the first begins at `from`.
-fn next_name(tree: &[u8], cells: &mut [u16; 2048], from: usize, count: u32, at: usize) -> Read
+fn next_name(tree: &[u8], cells: &mut [u16; 8192], from: usize, count: u32, at: usize) -> Read
     requires { ⌜ (namesEnd count (now tree) from ≡ at) × Marked (now cells) (namesFrom count (now tree) from) ⌝ }
     ensures { λ r. ⌜ OneMore count (now (tree .entry)) from at r × Noted count (now (tree .entry)) from r (now (cells .exit)) ⌝ }
 {
@@ -158,7 +158,7 @@ fn next_name(tree: &[u8], cells: &mut [u16; 2048], from: usize, count: u32, at: 
 pub fn name_table(tree: &[u8], count: u32, at: usize) -> Read
     ensures { λ r. ⌜ Tables count (now (tree .entry)) at r ⌝ }
 {
-    let mut cells = [0u16; 2048];
+    let mut cells = [0u16; 8192];
     let mut done = 0u32;
     let mut cur = at;
     while done < count {

@@ -11,7 +11,22 @@ pub enum Read {
     Refused(u32, usize),
 }
 
+// Most numbers have one group, so that one is looked at first.
 pub fn number(tree: &[u8], at: usize) -> Read
+    ensures { λ r. ⌜ Gives num (now (tree .entry)) at r ⌝ }
+{
+    if tree.len() <= at {
+        return Read::Refused(3, at);
+    }
+    let first = wide(tree[at]);
+    if first < 128 {
+        return Read::Number(first as u32, at + 1);
+    }
+    groups(tree, at)
+}
+
+// A number of any width.
+fn groups(tree: &[u8], at: usize) -> Read
     ensures { λ r. ⌜ Gives num (now (tree .entry)) at r ⌝ }
 {
     let mut here = at;

@@ -36,7 +36,14 @@ pub fn value_type(tree: &[u8], answer: &mut [u8], work: &mut [u32], st: Walk, le
 }
 
 // What follows a type's kind.
-fn type_of(tree: &[u8], answer: &mut [u8], work: &mut [u32], st: Walk, left: u32, kind: u32) -> Typed {
+fn type_of(
+    tree: &[u8],
+    answer: &mut [u8],
+    work: &mut [u32],
+    st: Walk,
+    left: u32,
+    kind: u32,
+) -> Typed {
     match kind {
         0..=13 => plain(answer, st, kind),
         14 => array(tree, answer, work, st, left),
@@ -56,7 +63,14 @@ fn plain(answer: &mut [u8], st: Walk, kind: u32) -> Typed {
 }
 
 // The kinds that hold one type and nothing else.
-fn element_of(tree: &[u8], answer: &mut [u8], work: &mut [u32], st: Walk, left: u32, kind: u32) -> Typed {
+fn element_of(
+    tree: &[u8],
+    answer: &mut [u8],
+    work: &mut [u32],
+    st: Walk,
+    left: u32,
+    kind: u32,
+) -> Typed {
     let w = st.wrote;
     let a = then_number(answer, w, kind);
     let element = value_type(tree, answer, work, st.wrote(a), left);
@@ -94,7 +108,13 @@ fn past_length(tree: &[u8], st: Walk, fault: Fault) -> Typed {
 }
 
 // An element before its named length.
-fn array_with_named_length(tree: &[u8], answer: &mut [u8], work: &mut [u32], st: Walk, left: u32) -> Typed {
+fn array_with_named_length(
+    tree: &[u8],
+    answer: &mut [u8],
+    work: &mut [u32],
+    st: Walk,
+    left: u32,
+) -> Typed {
     let w = st.wrote;
     let element = element_of(tree, answer, work, st, left, 15);
     match element {
@@ -199,7 +219,14 @@ pub fn option_type(tree: &[u8], answer: &mut [u8], work: &mut [u32], st: Walk, l
 }
 
 // The type of a constant or member, with found_container over it where it is fine.
-pub fn contained_type(tree: &[u8], answer: &mut [u8], work: &mut [u32], st: Walk, holder: Holder, left: u32) -> Walk {
+pub fn contained_type(
+    tree: &[u8],
+    answer: &mut [u8],
+    work: &mut [u32],
+    st: Walk,
+    holder: Holder,
+    left: u32,
+) -> Walk {
     let at = st.at;
     let tag = below(tree, 2, at);
     let Read::Number(t, a) = tag else {

@@ -7,8 +7,6 @@ use answer::number::then_number;
 use containers::containers::Found;
 use expressions::expression;
 use statements::maybe_body;
-use types::contained_type;
-use types::maybe_type;
 use tree::counts::Counted;
 use tree::counts::Passed;
 use tree::counts::count;
@@ -23,6 +21,8 @@ use tree::field::two_places;
 use tree::number::Read;
 use tree::number::below;
 use tree::number::number;
+use types::contained_type;
+use types::maybe_type;
 use walk::edges::Holder;
 use walk::edges::container_at;
 use walk::edges::find_in;
@@ -42,7 +42,13 @@ use walk::names::in_constexpr_of;
 use walk::names::opened;
 use walk::state::Walk;
 
-pub fn declaration(tree: &[u8], answer: &mut [u8], list: &mut [u32], work: &mut [u32], st: Walk) -> Walk {
+pub fn declaration(
+    tree: &[u8],
+    answer: &mut [u8],
+    list: &mut [u32],
+    work: &mut [u32],
+    st: Walk,
+) -> Walk {
     let at = st.at;
     let kind = below(tree, 6, at);
     let Read::Number(k, a) = kind else {
@@ -109,7 +115,15 @@ fn head_places(tree: &[u8], at: usize, kind: u32) -> Read {
     two_places(tree, at)
 }
 
-fn named_declaration(tree: &[u8], answer: &mut [u8], list: &mut [u32], work: &mut [u32], st: Walk, kind: u32, h: Start) -> Walk {
+fn named_declaration(
+    tree: &[u8],
+    answer: &mut [u8],
+    list: &mut [u32],
+    work: &mut [u32],
+    st: Walk,
+    kind: u32,
+    h: Start,
+) -> Walk {
     let i = h.identifier;
     let twice = declared_before(work, st, kind, i);
     match twice {
@@ -171,7 +185,15 @@ fn drop_declaration(tree: &[u8], answer: &mut [u8], st: Walk, fault: Fault) -> W
     st.wrote(x).counted(more).moved(behind)
 }
 
-fn keep_declaration(tree: &[u8], answer: &mut [u8], list: &mut [u32], work: &mut [u32], st: Walk, kind: u32, h: Start) -> Walk {
+fn keep_declaration(
+    tree: &[u8],
+    answer: &mut [u8],
+    list: &mut [u32],
+    work: &mut [u32],
+    st: Walk,
+    kind: u32,
+    h: Start,
+) -> Walk {
     let counts = st.counts;
     let more = count(counts, declaration_counts(kind));
     let Counted::Are(c) = more else {
@@ -187,7 +209,15 @@ fn keep_declaration(tree: &[u8], answer: &mut [u8], list: &mut [u32], work: &mut
 }
 
 // Kind, flags, places and identifier are written; the walk is at the declaration's parts.
-fn started(tree: &[u8], answer: &mut [u8], st: Walk, kind: u32, flags: u32, h: Start, i: Identifier) -> Walk {
+fn started(
+    tree: &[u8],
+    answer: &mut [u8],
+    st: Walk,
+    kind: u32,
+    flags: u32,
+    h: Start,
+    i: Identifier,
+) -> Walk {
     let w = st.wrote;
     let x = then_number(answer, w, kind);
     let y = then_number(answer, x, flags);
@@ -197,12 +227,28 @@ fn started(tree: &[u8], answer: &mut [u8], st: Walk, kind: u32, flags: u32, h: S
 }
 
 // In its value a use is an edge.
-fn constant(tree: &[u8], answer: &mut [u8], list: &mut [u32], work: &mut [u32], st: Walk, h: Start, row: u32) -> Walk {
+fn constant(
+    tree: &[u8],
+    answer: &mut [u8],
+    list: &mut [u32],
+    work: &mut [u32],
+    st: Walk,
+    h: Start,
+    row: u32,
+) -> Walk {
     if 128 <= row {
         return st;
     }
     let j = container_at(work, row as usize);
-    let s = started(tree, answer, st, 0, h.flags, h, resolved(h.identifier, j.id, 1));
+    let s = started(
+        tree,
+        answer,
+        st,
+        0,
+        h.flags,
+        h,
+        resolved(h.identifier, j.id, 1),
+    );
     let r = expression(tree, answer, list, work, in_constexpr_of(s, row + 1), 63);
     let holder = Holder {
         row: row as usize,
@@ -213,7 +259,15 @@ fn constant(tree: &[u8], answer: &mut [u8], list: &mut [u32], work: &mut [u32], 
 }
 
 // "A function's own name comes out with authority 0", being looked up again; the return type is analysed outside the scope.
-fn function(tree: &[u8], answer: &mut [u8], list: &mut [u32], work: &mut [u32], st: Walk, h: Start, row: u32) -> Walk {
+fn function(
+    tree: &[u8],
+    answer: &mut [u8],
+    list: &mut [u32],
+    work: &mut [u32],
+    st: Walk,
+    h: Start,
+    row: u32,
+) -> Walk {
     let j = function_at(work, row as usize);
     let i = h.identifier;
     let flags = with_main(h.flags, i.name, st.script.main);
@@ -238,17 +292,47 @@ fn with_main(flags: u32, name: u32, main: u32) -> u32 {
     flags
 }
 
-fn function_head(tree: &[u8], answer: &mut [u8], work: &mut [u32], st: Walk, h: Start, row: u32) -> Walk {
+fn function_head(
+    tree: &[u8],
+    answer: &mut [u8],
+    work: &mut [u32],
+    st: Walk,
+    h: Start,
+    row: u32,
+) -> Walk {
     let j = function_at(work, row as usize);
-    let s = started(tree, answer, st, 2, h.flags, h, resolved(h.identifier, j.id, 0));
+    let s = started(
+        tree,
+        answer,
+        st,
+        2,
+        h.flags,
+        h,
+        resolved(h.identifier, j.id, 0),
+    );
     let r = parameters(tree, answer, work, opened(s));
     let q = closed(work, r, st);
     maybe_type(tree, answer, work, q, 63)
 }
 
-fn structure(tree: &[u8], answer: &mut [u8], work: &mut [u32], st: Walk, h: Start, row: u32) -> Walk {
+fn structure(
+    tree: &[u8],
+    answer: &mut [u8],
+    work: &mut [u32],
+    st: Walk,
+    h: Start,
+    row: u32,
+) -> Walk {
     let j = container_at(work, row as usize);
-    let s = started(tree, answer, st, 3, h.flags, h, resolved(h.identifier, j.id, 1));
+    let s = started(
+        tree,
+        answer,
+        st,
+        3,
+        h.flags,
+        h,
+        resolved(h.identifier, j.id, 1),
+    );
     let r = members(tree, answer, work, opened(s), row);
     let q = closed(work, r, st);
     maybe_type(tree, answer, work, q, 63)

@@ -1,4 +1,6 @@
 // "Predeclaration runs over all declarations first": constants, structures, functions and heads take their ids.
+use super::declaration::Head;
+use super::declaration::read_head;
 use containers::containers::Declared;
 use containers::containers::push_container;
 use containers::functions::push_function;
@@ -8,8 +10,6 @@ use memory::layout::FUNCTIONS;
 use memory::layout::FUNCTIONS_END;
 use memory::layout::WORDS;
 use memory::words::next;
-use super::declaration::Head;
-use super::declaration::read_head;
 use tree::counts::Counts;
 use tree::counts::Passed;
 use tree::declaration::declaration as past_declaration;
@@ -55,7 +55,14 @@ pub fn predeclare_all(tree: &[u8], work: &mut [u32], layout: Layout) -> Predecla
 }
 
 // The declaration at `at`; answers the id after it.
-fn predeclare(tree: &[u8], work: &mut [u32], names: u32, counts: Counts, at: usize, id: u32) -> u32 {
+fn predeclare(
+    tree: &[u8],
+    work: &mut [u32],
+    names: u32,
+    counts: Counts,
+    at: usize,
+    id: u32,
+) -> u32 {
     let kind = below(tree, 6, at);
     let Read::Number(k, a) = kind else {
         return id;

@@ -1,4 +1,9 @@
 // The whole tree: names as they came, declarations, depths.
+use super::declaration::Head;
+use super::declaration::declaration;
+use super::declaration::read_head;
+use super::predeclare::Predeclared;
+use super::predeclare::predeclare_all;
 use answer::copy::then_copy;
 use answer::number::then_number;
 use answer::wrote::Wrote;
@@ -9,11 +14,6 @@ use memory::layout::CONTAINERS;
 use memory::layout::CONTAINERS_END;
 use memory::layout::WORDS;
 use scopes::scope::Scope;
-use super::declaration::Head;
-use super::declaration::declaration;
-use super::declaration::read_head;
-use super::predeclare::Predeclared;
-use super::predeclare::predeclare_all;
 use tree::counts::Counts;
 use tree::counts::Passed;
 use tree::declaration::declaration as past_declaration;
@@ -28,13 +28,19 @@ use walk::state::Script;
 use walk::state::Tables;
 use walk::state::Walk;
 
-// Both are as long as they would be with room enough.
+// How far answer and list are written, or that they did not fit.
 pub struct Answered {
     pub wrote: Wrote,
     pub listed: Wrote,
 }
 
-pub fn variable_references(tree: &[u8], answer: &mut [u8], list: &mut [u32], work: &mut [u32], layout: Layout) -> Answered {
+pub fn variable_references(
+    tree: &[u8],
+    answer: &mut [u8],
+    list: &mut [u32],
+    work: &mut [u32],
+    layout: Layout,
+) -> Answered {
     let begin = predeclare_all(tree, work, layout);
     let names = then_names(tree, answer);
     let x = then_number(answer, names, layout.count);
@@ -104,7 +110,14 @@ fn then_names(tree: &[u8], answer: &mut [u8]) -> Wrote {
     w
 }
 
-fn then_name(tree: &[u8], answer: &mut [u8], w: Wrote, length: u32, from: usize, to: usize) -> Wrote {
+fn then_name(
+    tree: &[u8],
+    answer: &mut [u8],
+    w: Wrote,
+    length: u32,
+    from: usize,
+    to: usize,
+) -> Wrote {
     let x = then_number(answer, w, length);
     then_copy(answer, x, tree, from, to)
 }
@@ -138,7 +151,14 @@ fn main_name(tree: &[u8]) -> u32 {
     n
 }
 
-fn declarations(tree: &[u8], answer: &mut [u8], list: &mut [u32], work: &mut [u32], st: Walk, count: u32) -> Walk {
+fn declarations(
+    tree: &[u8],
+    answer: &mut [u8],
+    list: &mut [u32],
+    work: &mut [u32],
+    st: Walk,
+    count: u32,
+) -> Walk {
     let mut s = st;
     let mut rest = count;
     while rest != 0 {
@@ -157,7 +177,14 @@ fn determine_depths(work: &mut [u32], script: Script) {
 }
 
 // One depth per declaration.
-fn then_depths(tree: &[u8], answer: &mut [u8], work: &[u32], script: Script, layout: Layout, wrote: Wrote) -> Wrote {
+fn then_depths(
+    tree: &[u8],
+    answer: &mut [u8],
+    work: &[u32],
+    script: Script,
+    layout: Layout,
+    wrote: Wrote,
+) -> Wrote {
     let names = layout.names;
     let mut rest = layout.count;
     let mut at = layout.first;

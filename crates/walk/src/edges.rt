@@ -1,4 +1,7 @@
 // What is contained in a constant or a structure.
+use super::fault::Fault;
+use super::fault::poisoned;
+use super::state::Script;
 use containers::containers::Contained;
 use containers::containers::Declared;
 use containers::containers::Found;
@@ -9,16 +12,13 @@ use containers::containers::found_container_1;
 use memory::layout::CONTAINERS;
 use memory::layout::CONTAINERS_END;
 use memory::layout::WORDS;
-use super::fault::Fault;
-use super::fault::poisoned;
-use super::state::Script;
 use tree::field::Identified;
 use tree::field::read_identifier;
 use tree::number::Read;
 use tree::number::below;
 use tree::value_type::value_type;
 
-// Who contains: a constant or structure by its row, and where it is a structure 1 and the place of its member.
+// Who contains: a constant or structure by its row; in a structure, the place of its member.
 pub struct Holder {
     pub row: usize,
     pub is_member: bool,
@@ -113,7 +113,14 @@ fn constant_in(work: &[u32], script: Script, row: usize) -> Found {
 }
 
 // found_container, over a type all whose names are found; it "ignores Pointer and View".
-pub fn found_container(tree: &[u8], work: &mut [u32], script: Script, holder: Holder, at: usize, left: u32) -> Edge {
+pub fn found_container(
+    tree: &[u8],
+    work: &mut [u32],
+    script: Script,
+    holder: Holder,
+    at: usize,
+    left: u32,
+) -> Edge {
     let kind = below(tree, 26, at);
     let Read::Number(k, a) = kind else {
         return Edge::Fine;
@@ -131,7 +138,14 @@ pub fn found_container(tree: &[u8], work: &mut [u32], script: Script, holder: Ho
 }
 
 // The element before the length.
-fn found_in_named_length(tree: &[u8], work: &mut [u32], script: Script, holder: Holder, at: usize, left: u32) -> Edge {
+fn found_in_named_length(
+    tree: &[u8],
+    work: &mut [u32],
+    script: Script,
+    holder: Holder,
+    at: usize,
+    left: u32,
+) -> Edge {
     let element = found_container(tree, work, script, holder, at, left);
     let Edge::Fine = element else {
         return element;
@@ -144,7 +158,14 @@ fn found_in_named_length(tree: &[u8], work: &mut [u32], script: Script, holder: 
 }
 
 // The constant (kind 0) or structure (3) named by the identifier at `at`.
-fn found_named(tree: &[u8], work: &mut [u32], script: Script, holder: Holder, at: usize, kind: u32) -> Edge {
+fn found_named(
+    tree: &[u8],
+    work: &mut [u32],
+    script: Script,
+    holder: Holder,
+    at: usize,
+    kind: u32,
+) -> Edge {
     let one = read_identifier(tree, script.names, at);
     let Identified::Is(i, _) = one else {
         return Edge::Fine;

@@ -1,11 +1,11 @@
 // Identifiers and poisons, as they are read and written.
+use super::fault::Fault;
+use super::fault::then_fault;
+use super::state::Walk;
 use answer::copy::then_head;
 use answer::identifier::then_identifier;
 use answer::number::then_number;
 use answer::wrote::Wrote;
-use super::fault::Fault;
-use super::fault::then_fault;
-use super::state::Walk;
 use tree::field::Identifier;
 use tree::number::Read;
 use tree::poison::poison;

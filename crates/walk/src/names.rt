@@ -1,4 +1,16 @@
 // What declares and uses names.
+use super::edges::Edge;
+use super::edges::Holder;
+use super::edges::container_at;
+use super::edges::edge_to;
+use super::edges::find_in;
+use super::fault::Fault;
+use super::fault::duplicate;
+use super::fault::poisoned;
+use super::fault::undefined;
+use super::items::resolved;
+use super::state::Tables;
+use super::state::Walk;
 use answer::record::then_record;
 use containers::containers::Declared;
 use containers::containers::Found as Predeclared;
@@ -19,18 +31,6 @@ use scopes::pruning::poison_variable;
 use scopes::scope::Found;
 use scopes::scope::Local;
 use scopes::scope::local_at;
-use super::edges::Edge;
-use super::edges::Holder;
-use super::edges::container_at;
-use super::edges::edge_to;
-use super::edges::find_in;
-use super::fault::Fault;
-use super::fault::duplicate;
-use super::fault::poisoned;
-use super::fault::undefined;
-use super::items::resolved;
-use super::state::Tables;
-use super::state::Walk;
 use tree::field::Identifier;
 
 // A name that is used: the identifier made anew, or the poison in its place.
@@ -68,7 +68,13 @@ fn local_of(work: &[u32], k: usize) -> Local {
 // DECLARING: a duplicate is answered by poison, yet takes an id and stays declared.
 
 // declare_variable (kind 4), declare_parameter (5), declare_member (6): a duplicate of any name in scope, a constant's too.
-pub fn declare_variable(work: &mut [u32], st: Walk, kind: u32, i: Identifier, from: usize) -> Named {
+pub fn declare_variable(
+    work: &mut [u32],
+    st: Walk,
+    kind: u32,
+    i: Identifier,
+    from: usize,
+) -> Named {
     let id = st.tables.next_id;
     let made = resolved(i, id, 1);
     let before = place_of_variable(work, st, i.name);
@@ -213,7 +219,13 @@ pub fn use_called(work: &[u32], st: Walk, i: Identifier, builtin: u32) -> Used {
 }
 
 // use_variable: all layers are searched, the outermost first. The identifier stands at `from`.
-pub fn use_variable(list: &mut [u32], work: &mut [u32], st: Walk, i: Identifier, from: usize) -> Named {
+pub fn use_variable(
+    list: &mut [u32],
+    work: &mut [u32],
+    st: Walk,
+    i: Identifier,
+    from: usize,
+) -> Named {
     let constant = find_in(work, st.script, 0, i.name);
     let Predeclared::At(row) = constant else {
         return use_local(list, work, st, i, from);
