@@ -1,11 +1,1 @@
 pub mod Loops
-pub mod Leading
-pub mod Writing
-pub mod Tables
-pub mod Faults
-pub mod Scoping
-pub mod Using
-pub mod Edging
-pub mod Declaring
-pub mod Copying
-pub mod Following
