@@ -2,7 +2,7 @@
 """gen.py CONFIG [paths] [fresh]: writes the proofs of a crate's functions and cycles from templates.
  CONFIG (python): CRATE; NAMES {module: [names]} for the `use` lines; PLAIN {fn: cfg}; CYCLES {'+a+b': dict(MEASURE={member: text}, MEMBERS={member: cfg})}
  cfg: {need: template}; in a template `@thing.field.1` is the path `(c .before .. .thing .field .1)` to the thing of that name on the way of that need, `@pre` the entry.
-      'inv', 'lmeasure' for a loop, 'unf' {need or '*': names} for `unfolding`. A need with no template is `search needs`.
+      'inv', 'lmeasure' for a loop, 'unf' {need or '*': names} for `unfolding`. A need with no template is `search needs`; 'returns*' stands for every `returns` that has none.
  A need same-length* with no template is answered by the lengths that the calls on its way keep, where each of them takes the slice whole.
  What rattle prints is kept in cache/ until the words `fresh`; `paths` prints the way of each need."""
 import re, sys, os, subprocess, shutil, pickle
@@ -76,6 +76,7 @@ def lengths(lts, own, recs, module, name, need, inv):
     n, kind = mine[m.group(1).count('.1')]; slice = slice_of(n, kind); out = []
     for k, thing, f in chain(own, recs[need]):
         if thing == 'loop' and inv.startswith('Kept'): out.append('(c' + ' .before' * k + f' .loop .inv .long-{slice})')
+        elif thing == 'loop' and inv.startswith('Going'): out.append('(c' + ' .before' * k + f' .loop .inv .kept .long-{slice})')
         elif thing == 'loop' and re.search(r'\blength ' + slice, inv): out.append('(c' + ' .before' * k + f' .loop .inv)')
         if not thing or f: continue
         theirs = callee(module, name, re.sub(r'\d+$', '', thing).replace('-', '_'))
@@ -118,6 +119,7 @@ def plain(f, cfg):
         if 'paths' in sys.argv and n in recs and (n.startswith('returns') or n.startswith('loop')): show(n, own, recs[n])
         auto = lengths(f'{cache}/gen/{lib.replace(".","/")}/{f}/Lts.antt', own, recs, f.split('/')[0] if '/' in f else 'lib', f.split('/')[-1], n, cfg.get('inv', '')) if n.startswith('same-length') and n not in cfg else None
         if auto: ans = auto
+        elif n not in cfg and n.startswith('returns') and 'returns*' in cfg: ans = resolve(cfg['returns*'], own, recs[n], f + ' ' + n)
         elif n in cfg: ans = same(own, recs[n], cfg[n][5:]) if cfg[n].startswith('SAME ') else resolve(cfg[n], own, recs[n], f + ' ' + n)
         else: args.append(f'(λ {b}. search needs)'); continue
         u = unfl(cfg, n)
@@ -172,6 +174,7 @@ below-measure n ps μ P t = and n ps (falls n ps _<_ μ t) P
             if 'paths' in sys.argv and (sn.startswith('returns') or sn.startswith('loop')): show(sn, own, recs[need[5:]])
             auto = lengths(f'{cache}/gen/{lib.replace(".","/")}/{cyc}/Lts-{lts_of[x]}.antt', own, recs, cyc.split('/')[0] if '/' in cyc else 'lib', x.replace('-', '_'), need[5:], cfg.get('inv', '')) if sn.startswith('same-length') and sn not in cfg else None
             if auto: ans = auto
+            elif sn not in cfg and sn.startswith('returns') and 'returns*' in cfg: ans = resolve(cfg['returns*'], own, recs[need[5:]], x + ' ' + sn)
             elif sn in cfg: ans = same(own, recs[need[5:]], cfg[sn][5:]) if cfg[sn].startswith('SAME ') else resolve(cfg[sn], own, recs[need[5:]], x + ' ' + sn)
             elif any(re.fullmatch(re.escape(y) + r'-requires(-\d+)?', sn) for y in members):
                 args.append(f'(λ {b}. omega (arith, ' + resolve('@pre', own, recs[need[5:]], sn) + '))'); continue

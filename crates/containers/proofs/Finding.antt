@@ -2,14 +2,15 @@
 use mathlib.Core.Path.{_≡_, refl, sym, ap, _∙_}
 use mathlib.Core.Bool.{Bool, true, false, _&&_, not}
 use mathlib.Core.List.{List}
-use mathlib.Core.Option.{none, some}
+use mathlib.Core.Option.{Option, none, some}
 use Prim.Native.Nat.{ℕ, _+_, _≤_, _<_}
 use native.Mathlib.Nat.{not-suc-le-zero}
 use native.Mathlib.Decide.{ℕ-discrete}
 use native.Mathlib.Omega.{arith}
-use lib.Dec.{eqb}
-use lib.ListN.{length, getD}
-use borrow.Author.Tests.{le-leb, lt-leb, lt-ltb, le-ltb, eq-eqb, ne-eqb}
+use lib.Dec.{eqb, ltb}
+use lib.ListN.{length, getD, take}
+use lib.Seq.{getD-take, length-take-le}
+use borrow.Author.Tests.{ltb-true, ltb-false, le-leb, lt-leb, lt-ltb, le-ltb, eq-eqb, ne-eqb}
 use Rattle.memory.specs.Rows.{member}
 use Rattle.penne.specs.Tree.{Spot, Ident}
 use Rattle.penne.specs.Find.{first, isIn, firstNamed}
@@ -17,7 +18,7 @@ use Rattle.penne.specs.Containers.{Container, Containment, idOf, identifierOf, 
 use Rattle.containers.specs.declared.containers.Found.{Found}
 use Rattle.containers.specs.declared.containers.Found.the-variants.{At, Nothing}
 use Rattle.containers.specs.Table.{noIdent, noContainer, at, idAt, idsAt, kindOf, containedIn, Holds}
-use Rattle.containers.specs.Calls.{First, here, nowhere, foundIn, ofKind, rowIs, Finds, constantIn, FindsConstant}
+use Rattle.containers.specs.Calls.{First, here, nowhere, before, foundIn, ofKind, rowIs, Finds, constantIn, FindsConstant}
 use Rattle.containers.specs.Functions.{functionAt, functionIn, functionIs, FindsFunction}
 use Rattle.containers.proofs.Lists.{first-at, first-none, first-kept, mapped}
 use Rattle.containers.proofs.Changing.{contained-at}
@@ -52,6 +53,26 @@ pub row-first : {A : Type 0} (d : A) (f : A → Bool) (cs : List A) {test : ℕ 
 row-first d f cs l t (here i h e n) = first-at d f cs i (omega arith) (sym (t i h) ∙ e) (λ k z. sym (t k (omega arith)) ∙ n k z)
 row-first d f cs l t (nowhere n) = first-none d f cs (λ k z. let y : k < _ = omega arith in sym (t k y) ∙ n k y)
 
+-- the first among the first n rows
+first-before : {test : ℕ → Bool} {count : ℕ} {r : Found} (n : ℕ) → n ≤ count → First test count r → First test n (before n r)
+unfolding before
+first-before {test} n l (here i h e f) = (elim (ltb i n) as (λ b. ltb i n ≡ b → First test n (elim b [ true ↦ At i | false ↦ Nothing ])) [
+  | true ↦ λ q. here i (ltb-true i n q) e f
+  | false ↦ λ q. nowhere (λ k z. f k (let y = ltb-false i n q in omega arith))
+]) refl
+first-before n l (nowhere f) = nowhere (λ k z. f k (omega arith))
+
+taken-same : {A : Type 0} (d : A) (cs : List A) {test : ℕ → Bool} {n : ℕ} {r : Found} → First test n r → _≡_ {A = Option A} (elim r [ At i ↦ some (getD (take n cs) i d) | Nothing ↦ none ]) (elim r [ At i ↦ some (getD cs i d) | Nothing ↦ none ])
+taken-same d cs {n = n} (here i h e f) = ap some (getD-take n cs i d h)
+taken-same d cs (nowhere f) = refl
+
+-- as row-first, among the first n
+row-before : {A : Type 0} (d : A) (f : A → Bool) (cs : List A) {test : ℕ → Bool} {count : ℕ} {r : Found} (n : ℕ) → n ≤ count → length cs ≡ count → ((k : ℕ) → k < count → test k ≡ f (getD cs k d)) → First test count r
+    → first f (take n cs) ≡ elim (before n r) [ At i ↦ some (getD cs i d) | Nothing ↦ none ]
+row-before d f cs {count = count} n h l t g =
+    let q = first-before n h g in
+    row-first d f (take n cs) (length-take-le n cs (omega arith)) (λ k z. let y : k < count = omega arith in t k y ∙ ap f (sym (getD-take n cs k d z))) q ∙ taken-same d cs q
+
 -- FUNCTIONS
 
 pub function-high : (w : List ℕ) (name r : ℕ) → 256 ≤ r → false ≡ functionIs w name r
@@ -67,6 +88,7 @@ unfolding functionIn functionAt firstNamed functionIs
 finds-function {count} {name} {w} {r} f = record {
   below = first-below f;
   finds = λ fs h. pick fs r ∙ sym (row-first noIdent (λ i. eqb (i .name) name) fs (h .counted) (λ k l. let few = h .few in rw (lt-ltb k 256 (omega arith), h .rows k l .name)) f);
+  earlier = λ fs h n le. pick fs (before n r) ∙ sym (row-before noIdent (λ i. eqb (i .name) name) fs n le (h .counted) (λ k l. let few = h .few in rw (lt-ltb k 256 (omega arith), h .rows k l .name)) f);
 }
   where
     pick : (fs : List (Ident Spot)) (r : Found) → functionIn fs r ≡ elim r [ At i ↦ some (getD fs i noIdent) | Nothing ↦ none ]
@@ -114,7 +136,7 @@ found-picked cs Nothing = refl
 
 pub finds-container : {count kind name : ℕ} {w : List ℕ} {r : Found} → First (rowIs w kind name) count r → Finds count kind name w r
 unfolding foundIn at firstNamed ofKind structures constants identifierOf
-finds-container {count} {kind} {name} {w} {r} f = record { below = first-below f; finds = λ s h structure q. go s h structure q }
+finds-container {count} {kind} {name} {w} {r} f = record { below = first-below f; finds = λ s h structure q. go s h structure q; earlier = λ s h structure q n l. go-before s h structure q n l }
   where
     go : (s : Containment Spot) → Holds count w s → (structure : Bool) → kind ≡ kindOf structure → foundIn (s .containers) r ≡ firstNamed name (ofKind structure (s .containers))
     go s h true q = found-picked (s .containers) r
@@ -123,6 +145,14 @@ finds-container {count} {kind} {name} {w} {r} f = record { below = first-below f
     go s h false q = found-picked (s .containers) r
         ∙ sym (ap (mapped identifierOf) (row-first noContainer (λ c. not (c .isStructure) && eqb (c .identifier .name) name) (s .containers) (h .counted) (row-test name (λ c. not (c .isStructure)) false h q (λ c. kind-constant (c .isStructure))) f))
         ∙ sym (first-kept (λ i. eqb (i .name) name) identifierOf (λ c. not (c .isStructure)) (s .containers))
+
+    go-before : (s : Containment Spot) → Holds count w s → (structure : Bool) → kind ≡ kindOf structure → (n : ℕ) → n ≤ count → foundIn (s .containers) (before n r) ≡ firstNamed name (ofKind structure (take n (s .containers)))
+    go-before s h true q n l = found-picked (s .containers) (before n r)
+        ∙ sym (ap (mapped identifierOf) (row-before noContainer (λ c. c .isStructure && eqb (c .identifier .name) name) (s .containers) n l (h .counted) (row-test name (λ c. c .isStructure) true h q (λ c. kind-structure (c .isStructure))) f))
+        ∙ sym (first-kept (λ i. eqb (i .name) name) identifierOf (λ c. c .isStructure) (take n (s .containers)))
+    go-before s h false q n l = found-picked (s .containers) (before n r)
+        ∙ sym (ap (mapped identifierOf) (row-before noContainer (λ c. not (c .isStructure) && eqb (c .identifier .name) name) (s .containers) n l (h .counted) (row-test name (λ c. not (c .isStructure)) false h q (λ c. kind-constant (c .isStructure))) f))
+        ∙ sym (first-kept (λ i. eqb (i .name) name) identifierOf (λ c. not (c .isStructure)) (take n (s .containers)))
 
 -- THE FIRST CONSTANT IN A CYCLE
 

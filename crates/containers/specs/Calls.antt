@@ -1,11 +1,11 @@
 -- What the calls do, by the definitions. Each promise is about a table that holds the containers of some state.
-use Prim.Native.Nat.{ℕ, _+_, _<_}
+use Prim.Native.Nat.{ℕ, _+_, _≤_, _<_}
 use mathlib.Core.Path.{_≡_}
 use mathlib.Core.Bool.{Bool, true, false, _&&_}
 use mathlib.Core.List.{List, []}
 use mathlib.Core.Option.{Option, none, some}
 use lib.Dec.{eqb, ltb, leb}
-use lib.ListN.{length, getD}
+use lib.ListN.{length, getD, take}
 use Rattle.memory.specs.Rows.{member}
 use Rattle.penne.specs.Tree.{Spot, Ident, Maybe, ok, err, poison}
 use Rattle.penne.specs.Find.{firstNamed}
@@ -41,6 +41,11 @@ pub data First (test : ℕ → Bool) (count : ℕ) : Found → Type 0 where
   here : (i : ℕ) → i < count → test i ≡ true → ((k : ℕ) → k < i → test k ≡ false) → First test count (At i)
   nowhere : ((k : ℕ) → k < count → test k ≡ false) → First test count Nothing
 
+-- what was found, where it stands in one of the first n rows
+unfoldable pub before : (n : ℕ) → Found → Found
+before n (At i) = elim (ltb i n) [ true ↦ At i | false ↦ Nothing ]
+before n Nothing = Nothing
+
 -- the identifier of the row that was found
 unfoldable pub foundIn : List (Container Spot) → Found → Option (Ident Spot)
 foundIn cs (At i) = some ((at cs i) .identifier)
@@ -59,6 +64,7 @@ rowIs w kind name r = ltb r 128 && (eqb (getD w (384 + r) 0) kind && eqb (getD w
 pub record Finds (count kind name : ℕ) (w : List ℕ) (r : Found) : Type 0 where
   pub below : (i : ℕ) → r ≡ At i → i < count
   pub finds : (s : Containment Spot) → Holds count w s → (structure : Bool) → kind ≡ kindOf structure → foundIn (s .containers) r ≡ firstNamed name (ofKind structure (s .containers))
+  pub earlier : (s : Containment Spot) → Holds count w s → (structure : Bool) → kind ≡ kindOf structure → (n : ℕ) → n ≤ count → foundIn (s .containers) (before n r) ≡ firstNamed name (ofKind structure (take n (s .containers)))
 
 -- what becomes of the edge from the container c, by its member m, to x; cs are the containers afterwards
 unfoldable pub answerOf : Contained → (c : Ident Spot) (m : Option (Ident Spot)) (x : Ident Spot) (cs : List (Container Spot)) → Maybe Spot (Ident Spot)

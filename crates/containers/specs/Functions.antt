@@ -5,11 +5,11 @@ use mathlib.Core.Bool.{Bool, _&&_}
 use mathlib.Core.List.{List, [], _∷_, _++_}
 use mathlib.Core.Option.{Option, none, some}
 use lib.Dec.{eqb, ltb}
-use lib.ListN.{length, getD}
+use lib.ListN.{length, getD, take}
 use Rattle.penne.specs.Tree.{Spot, Ident}
 use Rattle.penne.specs.Find.{firstNamed}
 use Rattle.containers.specs.Table.{noIdent}
-use Rattle.containers.specs.Calls.{Says}
+use Rattle.containers.specs.Calls.{Says, before}
 use Rattle.containers.specs.declared.containers.Declared.{Declared}
 use Rattle.containers.specs.declared.containers.Found.{Found}
 use Rattle.containers.specs.declared.containers.Found.the-variants.{At, Nothing}
@@ -53,3 +53,4 @@ functionIs w name r = ltb r 256 && eqb (getD w (0 + r) 0) name
 pub record FindsFunction (count name : ℕ) (w : List ℕ) (r : Found) : Type 0 where
   pub below : (i : ℕ) → r ≡ At i → i < count
   pub finds : (fs : List (Ident Spot)) → HoldsFunctions count w fs → functionIn fs r ≡ firstNamed name fs
+  pub earlier : (fs : List (Ident Spot)) → HoldsFunctions count w fs → (n : ℕ) → n ≤ count → functionIn fs (before n r) ≡ firstNamed name (take n fs)

@@ -33,6 +33,17 @@ use walk::names::opened;
 use walk::names::use_called;
 use walk::names::use_variable;
 use walk::state::Walk;
+ghost use Prim.Native.Nat.{ℕ};
+ghost use mathlib.Core.Bool.{false};
+ghost use mathlib.Core.List.{List};
+ghost use lib.ListN.{getD};
+ghost use Rattle.penne.specs.Reader.{num, listed};
+ghost use Rattle.penne.specs.Tree.{Spot, Carried, Expr, expr, ref, step};
+ghost use Rattle.penne.specs.Read.{ident, maybe, option, read, readTy, itemOf, stepOf, exprKinds, kBadExpr, exprOf, readBinary, readUnary, readBoolean, readInteger, readString, readArrayLiteral, readStructural, readParenthesized, readDeref, readBitCast, readTypeCast, readLengthOfArray, readSizeOf, readFunctionCall};
+ghost use Rattle.penne.specs.Write.{identB, maybeB, optionB, nodeB};
+ghost use Rattle.penne.specs.Variables.{analyzeBase, analyzeNode, analyzeOption};
+ghost use Rattle.walk.specs.Walking.{onward, Walks};
+ghost use Rattle.expressions.specs.Expressing.{listWalk, Headed, Integer, arrayNumber, refusing, Written};
 
 pub fn expression(
     tree: &[u8],
@@ -41,7 +52,9 @@ pub fn expression(
     work: &mut [u32],
     st: Walk,
     left: u32,
-) -> Walk {
+) -> Walk
+    ensures { λ r. ⌜ Walks (now (tree .entry)) (read left expr) (onward analyzeNode nodeB) st (now (answer .entry)) (now (list .entry)) (now (work .entry)) r (now (answer .exit)) (now (list .exit)) (now (work .exit)) ⌝ }
+{
     let at = st.at;
     let kind = below(tree, 16, at);
     let Read::Number(k, a) = kind else {
@@ -62,7 +75,9 @@ fn expression_of(
     st: Walk,
     left: u32,
     kind: u32,
-) -> Walk {
+) -> Walk
+    ensures { λ r. ⌜ Walks (now (tree .entry)) (exprOf (read left) (readTy left false) (getD exprKinds kind kBadExpr)) (onward analyzeNode nodeB) st (now (answer .entry)) (now (list .entry)) (now (work .entry)) r (now (answer .exit)) (now (list .exit)) (now (work .exit)) ⌝ }
+{
     match kind {
         0 => binary(tree, answer, list, work, st, left),
         1 => unary(tree, answer, list, work, st, left),
@@ -90,7 +105,9 @@ fn binary(
     work: &mut [u32],
     st: Walk,
     left: u32,
-) -> Walk {
+) -> Walk
+    ensures { λ r. ⌜ Walks (now (tree .entry)) (readBinary (read left)) (onward analyzeNode nodeB) st (now (answer .entry)) (now (list .entry)) (now (work .entry)) r (now (answer .exit)) (now (list .exit)) (now (work .exit)) ⌝ }
+{
     let at = st.at;
     let op = operator(tree, at);
     let Read::Number(_, a) = op else {
@@ -109,7 +126,9 @@ fn unary(
     work: &mut [u32],
     st: Walk,
     left: u32,
-) -> Walk {
+) -> Walk
+    ensures { λ r. ⌜ Walks (now (tree .entry)) (readUnary (read left)) (onward analyzeNode nodeB) st (now (answer .entry)) (now (list .entry)) (now (work .entry)) r (now (answer .exit)) (now (list .exit)) (now (work .exit)) ⌝ }
+{
     let at = st.at;
     let op = operator(tree, at);
     let Read::Number(_, a) = op else {
@@ -120,7 +139,9 @@ fn unary(
     expression(tree, answer, list, work, st.wrote(x).moved(a), left)
 }
 
-fn boolean(tree: &[u8], answer: &mut [u8], st: Walk) -> Walk {
+fn boolean(tree: &[u8], answer: &mut [u8], st: Walk) -> Walk
+    ensures { λ r. ⌜ ((l w : List ℕ) → Walks (now (tree .entry)) readBoolean (onward analyzeNode nodeB) st (now (answer .entry)) l w r (now (answer .exit)) l w) ⌝ }
+{
     let at = st.at;
     let value = below(tree, 2, at);
     let Read::Number(_, a) = value else {
@@ -136,7 +157,9 @@ fn boolean(tree: &[u8], answer: &mut [u8], st: Walk) -> Walk {
 }
 
 // A signed or a bit integer.
-fn integer(tree: &[u8], answer: &mut [u8], st: Walk, left: u32, kind: u32) -> Walk {
+fn integer(tree: &[u8], answer: &mut [u8], st: Walk, left: u32, kind: u32) -> Walk
+    ensures { λ r. ⌜ ((f : List ℕ → Spot → Carried Spot → Expr Spot) → Integer kind f → (l w : List ℕ) → Walks (now (tree .entry)) (readInteger f (readTy left false)) (onward analyzeNode nodeB) st (now (answer .entry)) l w r (now (answer .exit)) l w) ⌝ }
+{
     let at = st.at;
     let value = raw(tree, at, 16);
     let Read::Number(_, a) = value else {
@@ -157,7 +180,9 @@ fn integer(tree: &[u8], answer: &mut [u8], st: Walk, left: u32, kind: u32) -> Wa
     st.wrote(z).moved(c)
 }
 
-fn string(tree: &[u8], answer: &mut [u8], st: Walk) -> Walk {
+fn string(tree: &[u8], answer: &mut [u8], st: Walk) -> Walk
+    ensures { λ r. ⌜ ((l w : List ℕ) → Walks (now (tree .entry)) readString (onward analyzeNode nodeB) st (now (answer .entry)) l w r (now (answer .exit)) l w) ⌝ }
+{
     let at = st.at;
     let length = number(tree, at);
     let Read::Number(n, a) = length else {
@@ -186,7 +211,9 @@ fn array_literal(
     work: &mut [u32],
     st: Walk,
     left: u32,
-) -> Walk {
+) -> Walk
+    ensures { λ r. ⌜ Walks (now (tree .entry)) (readArrayLiteral (read left) (readTy left false)) (onward analyzeNode nodeB) st (now (answer .entry)) (now (list .entry)) (now (work .entry)) r (now (answer .exit)) (now (list .exit)) (now (work .exit)) ⌝ }
+{
     let at = st.at;
     let place = number(tree, at);
     let Read::Number(_, a) = place else {
@@ -202,7 +229,9 @@ fn array_literal(
     array_id(tree, answer, closed(work, s, st))
 }
 
-fn array_id(tree: &[u8], answer: &mut [u8], st: Walk) -> Walk {
+fn array_id(tree: &[u8], answer: &mut [u8], st: Walk) -> Walk
+    ensures { λ r. ⌜ ((l w : List ℕ) → Walks (now (tree .entry)) num arrayNumber st (now (answer .entry)) l w r (now (answer .exit)) l w) ⌝ }
+{
     let at = st.at;
     let id = number(tree, at);
     let Read::Number(_, a) = id else {
@@ -220,7 +249,9 @@ fn structural(
     work: &mut [u32],
     st: Walk,
     left: u32,
-) -> Walk {
+) -> Walk
+    ensures { λ r. ⌜ Walks (now (tree .entry)) (readStructural (read left) (readTy left false)) (onward analyzeNode nodeB) st (now (answer .entry)) (now (list .entry)) (now (work .entry)) r (now (answer .exit)) (now (list .exit)) (now (work .exit)) ⌝ }
+{
     let at = st.at;
     let place = number(tree, at);
     let Read::Number(_, a) = place else {
@@ -239,7 +270,9 @@ fn parenthesized(
     work: &mut [u32],
     st: Walk,
     left: u32,
-) -> Walk {
+) -> Walk
+    ensures { λ r. ⌜ Walks (now (tree .entry)) (readParenthesized (read left)) (onward analyzeNode nodeB) st (now (answer .entry)) (now (list .entry)) (now (work .entry)) r (now (answer .exit)) (now (list .exit)) (now (work .exit)) ⌝ }
+{
     let at = st.at;
     let place = number(tree, at);
     let Read::Number(_, a) = place else {
@@ -257,7 +290,9 @@ fn deref(
     work: &mut [u32],
     st: Walk,
     left: u32,
-) -> Walk {
+) -> Walk
+    ensures { λ r. ⌜ Walks (now (tree .entry)) (readDeref (read left) (readTy left false)) (onward analyzeNode nodeB) st (now (answer .entry)) (now (list .entry)) (now (work .entry)) r (now (answer .exit)) (now (list .exit)) (now (work .exit)) ⌝ }
+{
     let at = st.at;
     let typed = carried(tree, st.script.names, at, left);
     let Read::Number(_, a) = typed else {
@@ -275,7 +310,9 @@ fn bit_cast(
     work: &mut [u32],
     st: Walk,
     left: u32,
-) -> Walk {
+) -> Walk
+    ensures { λ r. ⌜ Walks (now (tree .entry)) (readBitCast (read left) (readTy left false)) (onward analyzeNode nodeB) st (now (answer .entry)) (now (list .entry)) (now (work .entry)) r (now (answer .exit)) (now (list .exit)) (now (work .exit)) ⌝ }
+{
     let at = st.at;
     let places = two_places(tree, at);
     let Read::Number(_, a) = places else {
@@ -298,7 +335,9 @@ fn type_cast(
     work: &mut [u32],
     st: Walk,
     left: u32,
-) -> Walk {
+) -> Walk
+    ensures { λ r. ⌜ Walks (now (tree .entry)) (readTypeCast (read left) (readTy left false)) (onward analyzeNode nodeB) st (now (answer .entry)) (now (list .entry)) (now (work .entry)) r (now (answer .exit)) (now (list .exit)) (now (work .exit)) ⌝ }
+{
     let at = st.at;
     let places = two_places(tree, at);
     let Read::Number(_, a) = places else {
@@ -313,7 +352,9 @@ fn type_cast(
     }
 }
 
-fn past_operand(tree: &[u8], answer: &mut [u8], st: Walk, fault: Fault, left: u32) -> Walk {
+fn past_operand(tree: &[u8], answer: &mut [u8], st: Walk, fault: Fault, left: u32) -> Walk
+    ensures { λ r. ⌜ ((l w : List ℕ) → Walks (now (tree .entry)) (read left expr) (refusing 15 fault) st (now (answer .entry)) l w r (now (answer .exit)) l w) ⌝ }
+{
     let at = st.at;
     let operand = past_expression(tree, st.script.names, at, left);
     let Read::Number(_, a) = operand else {
@@ -331,7 +372,9 @@ fn length_of_array(
     work: &mut [u32],
     st: Walk,
     left: u32,
-) -> Walk {
+) -> Walk
+    ensures { λ r. ⌜ Walks (now (tree .entry)) (readLengthOfArray (read left)) (onward analyzeNode nodeB) st (now (answer .entry)) (now (list .entry)) (now (work .entry)) r (now (answer .exit)) (now (list .exit)) (now (work .exit)) ⌝ }
+{
     let at = st.at;
     let place = number(tree, at);
     let Read::Number(_, a) = place else {
@@ -342,7 +385,9 @@ fn length_of_array(
     reference(tree, answer, list, work, st.wrote(x).moved(a), left)
 }
 
-fn size_of(tree: &[u8], answer: &mut [u8], work: &mut [u32], st: Walk, left: u32) -> Walk {
+fn size_of(tree: &[u8], answer: &mut [u8], work: &mut [u32], st: Walk, left: u32) -> Walk
+    ensures { λ r. ⌜ ((l : List ℕ) → Walks (now (tree .entry)) (readSizeOf (readTy left false)) (onward analyzeNode nodeB) st (now (answer .entry)) l (now (work .entry)) r (now (answer .exit)) l (now (work .exit))) ⌝ }
+{
     let at = st.at;
     let place = number(tree, at);
     let Read::Number(_, a) = place else {
@@ -365,7 +410,9 @@ fn function_call(
     work: &mut [u32],
     st: Walk,
     left: u32,
-) -> Walk {
+) -> Walk
+    ensures { λ r. ⌜ Walks (now (tree .entry)) (readFunctionCall (read left) (readTy left false)) (onward analyzeNode nodeB) st (now (answer .entry)) (now (list .entry)) (now (work .entry)) r (now (answer .exit)) (now (list .exit)) (now (work .exit)) ⌝ }
+{
     let at = st.at;
     let one = read_identifier(tree, st.script.names, at);
     let Identified::Is(i, a) = one else {
@@ -402,7 +449,9 @@ pub fn call_head(
     i: Identifier,
     from: usize,
     to: usize,
-) -> Walk {
+) -> Walk
+    ensures { λ r. ⌜ Headed st kind i (now (tree .entry)) from to (now (answer .entry)) r (now (answer .exit)) ⌝ }
+{
     let w = st.wrote;
     let x = then_number(answer, w, kind);
     let y = write_identifier(answer, x, i);
@@ -418,7 +467,9 @@ pub fn expressions(
     work: &mut [u32],
     st: Walk,
     left: u32,
-) -> Walk {
+) -> Walk
+    ensures { λ r. ⌜ Walks (now (tree .entry)) (listed (read left expr)) listWalk st (now (answer .entry)) (now (list .entry)) (now (work .entry)) r (now (answer .exit)) (now (list .exit)) (now (work .exit)) ⌝ }
+{
     let at = st.at;
     let count = number(tree, at);
     let Read::Number(n, a) = count else {
@@ -443,7 +494,9 @@ fn items(
     work: &mut [u32],
     st: Walk,
     left: u32,
-) -> Walk {
+) -> Walk
+    ensures { λ r. ⌜ Walks (now (tree .entry)) (listed (itemOf (read left))) listWalk st (now (answer .entry)) (now (list .entry)) (now (work .entry)) r (now (answer .exit)) (now (list .exit)) (now (work .exit)) ⌝ }
+{
     let at = st.at;
     let count = number(tree, at);
     let Read::Number(n, a) = count else {
@@ -467,7 +520,9 @@ fn item(
     work: &mut [u32],
     st: Walk,
     left: u32,
-) -> Walk {
+) -> Walk
+    ensures { λ r. ⌜ Walks (now (tree .entry)) (itemOf (read left)) (onward analyzeNode nodeB) st (now (answer .entry)) (now (list .entry)) (now (work .entry)) r (now (answer .exit)) (now (list .exit)) (now (work .exit)) ⌝ }
+{
     let at = st.at;
     let identifier = maybe_identifier(tree, st.script.names, at);
     let Read::Number(_, a) = identifier else {
@@ -489,7 +544,9 @@ pub fn reference(
     work: &mut [u32],
     st: Walk,
     left: u32,
-) -> Walk {
+) -> Walk
+    ensures { λ r. ⌜ Walks (now (tree .entry)) (read left ref) (onward analyzeNode nodeB) st (now (answer .entry)) (now (list .entry)) (now (work .entry)) r (now (answer .exit)) (now (list .exit)) (now (work .exit)) ⌝ }
+{
     let at = st.at;
     let depth = below(tree, 256, at);
     let Read::Number(_, a) = depth else {
@@ -509,7 +566,9 @@ pub fn reference(
 }
 
 // The base of a reference.
-fn base(tree: &[u8], answer: &mut [u8], list: &mut [u32], work: &mut [u32], st: Walk) -> Walk {
+fn base(tree: &[u8], answer: &mut [u8], list: &mut [u32], work: &mut [u32], st: Walk) -> Walk
+    ensures { λ r. ⌜ Walks (now (tree .entry)) (maybe ident) (onward analyzeBase (maybeB identB)) st (now (answer .entry)) (now (list .entry)) (now (work .entry)) r (now (answer .exit)) (now (list .exit)) (now (work .exit)) ⌝ }
+{
     let at = st.at;
     let tag = below(tree, 2, at);
     let Read::Number(t, a) = tag else {
@@ -527,7 +586,9 @@ fn base(tree: &[u8], answer: &mut [u8], list: &mut [u32], work: &mut [u32], st: 
 }
 
 // "Maybe identifier", as the name was looked up or declared; `at` is behind it.
-pub fn written(answer: &mut [u8], named: Named, at: usize) -> Walk {
+pub fn written(answer: &mut [u8], named: Named, at: usize) -> Walk
+    ensures { λ r. ⌜ Written named at (now (answer .entry)) r (now (answer .exit)) ⌝ }
+{
     match named {
         Named::As(s, i) => {
             let w = s.wrote;
@@ -549,7 +610,9 @@ fn steps(
     work: &mut [u32],
     st: Walk,
     left: u32,
-) -> Walk {
+) -> Walk
+    ensures { λ r. ⌜ Walks (now (tree .entry)) (listed (read left step)) listWalk st (now (answer .entry)) (now (list .entry)) (now (work .entry)) r (now (answer .exit)) (now (list .exit)) (now (work .exit)) ⌝ }
+{
     let at = st.at;
     let count = number(tree, at);
     let Read::Number(n, a) = count else {
@@ -573,7 +636,9 @@ fn step(
     work: &mut [u32],
     st: Walk,
     left: u32,
-) -> Walk {
+) -> Walk
+    ensures { λ r. ⌜ Walks (now (tree .entry)) (read left step) (onward analyzeNode nodeB) st (now (answer .entry)) (now (list .entry)) (now (work .entry)) r (now (answer .exit)) (now (list .exit)) (now (work .exit)) ⌝ }
+{
     let at = st.at;
     let kind = below(tree, 2, at);
     let Read::Number(k, a) = kind else {
@@ -595,7 +660,9 @@ fn element(
     work: &mut [u32],
     st: Walk,
     left: u32,
-) -> Walk {
+) -> Walk
+    ensures { λ r. ⌜ Walks (now (tree .entry)) (stepOf (read left) 0) (onward analyzeNode nodeB) st (now (answer .entry)) (now (list .entry)) (now (work .entry)) r (now (answer .exit)) (now (list .exit)) (now (work .exit)) ⌝ }
+{
     let at = st.at;
     let endless = below(tree, 3, at);
     let Read::Number(_, a) = endless else {
@@ -606,7 +673,9 @@ fn element(
     expression(tree, answer, list, work, st.wrote(x).moved(a), left)
 }
 
-fn member(tree: &[u8], answer: &mut [u8], st: Walk) -> Walk {
+fn member(tree: &[u8], answer: &mut [u8], st: Walk) -> Walk
+    ensures { λ r. ⌜ ((l w : List ℕ) → Walks (now (tree .entry)) (stepOf (read 0) 1) (onward analyzeNode nodeB) st (now (answer .entry)) l w r (now (answer .exit)) l w) ⌝ }
+{
     let at = st.at;
     let identifier = past_identifier(tree, st.script.names, at);
     let Read::Number(_, a) = identifier else {
@@ -628,7 +697,9 @@ pub fn option_expression(
     work: &mut [u32],
     st: Walk,
     left: u32,
-) -> Walk {
+) -> Walk
+    ensures { λ r. ⌜ Walks (now (tree .entry)) (option (read left expr)) (onward (analyzeOption analyzeNode) (optionB nodeB)) st (now (answer .entry)) (now (list .entry)) (now (work .entry)) r (now (answer .exit)) (now (list .exit)) (now (work .exit)) ⌝ }
+{
     let at = st.at;
     let tag = below(tree, 2, at);
     let Read::Number(t, a) = tag else {

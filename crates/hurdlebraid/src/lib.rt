@@ -5,6 +5,10 @@ use scoper::Scoped;
 use scoper::analyze;
 use scoper::get_container_depth;
 use scoper::structure_name_at;
+ghost use mathlib.Core.Path.{_≡_};
+ghost use lib.ListN.{length};
+ghost use Rattle.penne.specs.Scoper.{getContainerDepth, getStructureName};
+ghost use Rattle.hurdlebraid.specs.Telling.{Told, toldWords, depthTold, nameTold, wordOf};
 
 // The values: the answer's length in bytes, the list's in records.
 #[no_mangle]
@@ -33,7 +37,9 @@ pub extern "C" fn hurdlebraid_container_depth(
     declaration: u32,
     max: u32,
     outcome: &mut [u64],
-) {
+)
+    ensures { λ _. ⌜ now (outcome .exit) ≡ toldWords (length (now (outcome .entry))) (depthTold max (getContainerDepth (now (tree .entry)) declaration 4294967295)) ⌝ }
+{
     let depth = get_container_depth(tree, declaration, 4294967295);
     match depth {
         Depth::Is(d) => {
@@ -51,7 +57,9 @@ pub extern "C" fn hurdlebraid_container_depth(
 
 // The values: where the name begins in the tree, and its length; both 0 where the declaration is no structure.
 #[no_mangle]
-pub extern "C" fn hurdlebraid_structure_name(tree: &[u8], declaration: u32, outcome: &mut [u64]) {
+pub extern "C" fn hurdlebraid_structure_name(tree: &[u8], declaration: u32, outcome: &mut [u64])
+    ensures { λ _. ⌜ now (outcome .exit) ≡ toldWords (length (now (outcome .entry))) (nameTold (getStructureName (now (tree .entry)) declaration)) ⌝ }
+{
     let named = structure_name_at(tree, declaration);
     match named {
         Named::At(start, length) => {
@@ -63,7 +71,9 @@ pub extern "C" fn hurdlebraid_structure_name(tree: &[u8], declaration: u32, outc
     }
 }
 
-fn tell(outcome: &mut [u64], number: u64, place: u64, first: u64, second: u64) {
+fn tell(outcome: &mut [u64], number: u64, place: u64, first: u64, second: u64)
+    ensures { λ _. ⌜ now (outcome .exit) ≡ toldWords (length (now (outcome .entry))) (record { number = number; place = place; first = first; second = second }) ⌝ }
+{
     let mut i = 0usize;
     while i < outcome.len() {
         outcome[i] = told(i, number, place, first, second);
@@ -71,7 +81,9 @@ fn tell(outcome: &mut [u64], number: u64, place: u64, first: u64, second: u64) {
     }
 }
 
-fn told(i: usize, number: u64, place: u64, first: u64, second: u64) -> u64 {
+fn told(i: usize, number: u64, place: u64, first: u64, second: u64) -> u64
+    ensures { λ r. ⌜ r ≡ wordOf (record { number = number; place = place; first = first; second = second }) i ⌝ }
+{
     match i {
         0 => number,
         1 => place,

@@ -1,14 +1,9 @@
--- 01: "Two trees that differ only in place numbers of equal byte count get the same refusals, lengths, ids, depths and list."
--- The maps over places, and that sentence as a type, for two inputs that can be read.
-use Prim.Native.Nat.{ℕ}
+-- The maps over places: a tree with other places in it, and nothing else changed.
 use mathlib.Core.Path.{_≡_}
-use mathlib.Core.List.{List, map}
+use mathlib.Core.List.{map}
 use mathlib.Core.Option.{Option, none, some}
-use lib.ListN.{length}
-use Rattle.penne.specs.Reader.{Cur, got}
-use Rattle.penne.specs.Read.{decode, incoming}
-use Rattle.penne.specs.Scoper.{answeredTree, scoped}
-use Rattle.penne.specs.Tree.{Spot, Ident, Poison, poison, earlier, Maybe, ok, err, Ty, plain, array, arrayWithNamedLength, arraylike, struct, word, unresolved, nameless, pointer, view, Carried, Sort, Node, nil, cons, binary, unary, boolean, signed, bits, string, arrayLiteral, structural, parenthesized, deref, bitCast, typeCast, lengthOfArray, sizeOf, functionCall, badExpr, reference, element, member, memberExpression, StmSort, Stm, nil′, cons′, declaration, assignment, methodCall, loop, goto, label, ifElse, block, badStmt, noElse, orElse, Param, Body, Decl, constant, function, functionHead, structure, import, badDecl, Tree}
+use Rattle.penne.specs.Scoper.{answeredTree}
+use Rattle.penne.specs.Tree.{Ident, Poison, poison, earlier, Maybe, ok, err, Ty, plain, array, arrayWithNamedLength, arraylike, struct, word, unresolved, nameless, pointer, view, Carried, Sort, Node, nil, cons, binary, unary, boolean, signed, bits, string, arrayLiteral, structural, parenthesized, deref, bitCast, typeCast, lengthOfArray, sizeOf, functionCall, badExpr, reference, element, member, memberExpression, StmSort, Stm, nil′, cons′, declaration, assignment, methodCall, loop, goto, label, ifElse, block, badStmt, noElse, orElse, Param, Body, Decl, constant, function, functionHead, structure, import, badDecl, Tree}
 
 -- THE MAPS: f at every place, nothing else changed
 
@@ -101,36 +96,8 @@ mapDecl g (badDecl z) = badDecl (mapPoison g z)
 unfoldable pub mapTree : {P Q : Type 0} → (P → Q) → Tree P → Tree Q
 mapTree f t = record { names = t .names; decls = map (mapDecl f) (t .decls); depths = t .depths }
 
--- THE RULE
+-- NATURALITY
 
--- a tree without its place numbers, each place's offset kept: two trees decoded from inputs of one length that agree so differ in place numbers of equal width alone
-unfoldable pub placeless : Tree Spot → Tree ℕ
-placeless t = mapTree (λ p. p .from) t
-
--- two inputs, read as trees that differ in place numbers of equal width alone
-pub record Alike (s s′ : List ℕ) : Type 0 where
-  pub t : Tree Spot
-  pub t′ : Tree Spot
-  pub c : Cur
-  pub c′ : Cur
-  pub reads : decode incoming s ≡ got t c
-  pub reads′ : decode incoming s′ ≡ got t′ c′
-  pub alike : placeless t ≡ placeless t′
-  pub long : length s ≡ length s′
-
--- the same refusal, place, lengths and list; and answers that differ in place numbers alone, so the same ids and depths
-pub record SameButPlaces (s s′ : List ℕ) (bytes words work : ℕ) (e : Alike s s′) : Type 0 where
-  pub refusal : scoped s bytes words work .refusal ≡ scoped s′ bytes words work .refusal
-  pub place : scoped s bytes words work .place ≡ scoped s′ bytes words work .place
-  pub treeLength : scoped s bytes words work .treeLength ≡ scoped s′ bytes words work .treeLength
-  pub records : scoped s bytes words work .records ≡ scoped s′ bytes words work .records
-  pub list : scoped s bytes words work .list ≡ scoped s′ bytes words work .list
-  pub answers : placeless (answeredTree (e .t)) ≡ placeless (answeredTree (e .t′))
-
--- the theorem to prove
-abbrev pub PlaceRule : Type 0
-PlaceRule = (s s′ : List ℕ) (bytes words work : ℕ) (e : Alike s s′) → SameButPlaces s s′ bytes words work e
-
--- what the theorem rests on: neither pass looks at a place
+-- neither pass looks at a place: what the place rule rests on (specs/PlaceRule)
 abbrev pub Natural : Type 1
 Natural = (P Q : Type 0) (f : P → Q) (t : Tree P) → answeredTree (mapTree f t) ≡ mapTree f (answeredTree t)

@@ -40,6 +40,15 @@ use walk::names::numbered;
 use walk::names::opened;
 use walk::names::use_called;
 use walk::state::Walk;
+ghost use Prim.Native.Nat.{ℕ};
+ghost use mathlib.Core.List.{List, _++_};
+ghost use lib.ListN.{getD};
+ghost use Rattle.penne.specs.Reader.{listed};
+ghost use Rattle.penne.specs.Read.{ident, maybe, stmtKinds, kBadStmt, stmtOf, readStmt, readDeclaration, readAssignment, readMethodCall, readIf, elseOf, readBlock, readBody};
+ghost use Rattle.penne.specs.Write.{numB, identB, stmB};
+ghost use Rattle.answer.specs.Out.{Put};
+ghost use Rattle.walk.specs.Walking.{Walks, onward, madeB};
+ghost use Rattle.statements.specs.Stating.{readLoop, readGoto, readLabel, stmWalk, stmsWalk, bodyWalk, bodyOkWalk, nameBody, Follows, Anything, Entered, Worded, Numbered, Declares, Prepares, Prunes, LabelPlace};
 
 pub fn stmt(
     tree: &[u8],
@@ -48,7 +57,9 @@ pub fn stmt(
     work: &mut [u32],
     st: Walk,
     left: u32,
-) -> Walk {
+) -> Walk
+    ensures { λ r. ⌜ Walks (now (tree .entry)) (readStmt left) (stmWalk stmB) st (now (answer .entry)) (now (list .entry)) (now (work .entry)) r (now (answer .exit)) (now (list .exit)) (now (work .exit)) ⌝ }
+{
     let at = st.at;
     let kind = below(tree, 9, at);
     let Read::Number(k, a) = kind else {
@@ -84,7 +95,9 @@ fn statement_of(
     left: u32,
     kind: u32,
     n: u32,
-) -> Walk {
+) -> Walk
+    ensures { λ r. ⌜ Follows (Numbered kind n st (now (work .entry))) (now (tree .entry)) (stmtOf left (readStmt left) (getD stmtKinds kind kBadStmt)) st (now (answer .entry)) (now (list .entry)) (now (work .entry)) r (now (answer .exit)) (now (list .exit)) (now (work .exit)) ⌝ }
+{
     match kind {
         0 => declaration(tree, answer, list, work, st, left),
         1 => assignment(tree, answer, list, work, st, left),
@@ -106,7 +119,9 @@ fn declaration(
     work: &mut [u32],
     st: Walk,
     left: u32,
-) -> Walk {
+) -> Walk
+    ensures { λ r. ⌜ Follows (Entered st) (now (tree .entry)) (readDeclaration left) st (now (answer .entry)) (now (list .entry)) (now (work .entry)) r (now (answer .exit)) (now (list .exit)) (now (work .exit)) ⌝ }
+{
     let at = st.at;
     let place = number(tree, at);
     let Read::Number(_, a) = place else {
@@ -120,7 +135,9 @@ fn declaration(
 }
 
 // The name behind the value and the type; `before` is how far the answer was written before them.
-fn declared(tree: &[u8], answer: &mut [u8], work: &mut [u32], st: Walk, before: Wrote) -> Walk {
+fn declared(tree: &[u8], answer: &mut [u8], work: &mut [u32], st: Walk, before: Wrote) -> Walk
+    ensures { λ r. ⌜ Declares (now (tree .entry)) before st (now (answer .entry)) (now (work .entry)) r (now (answer .exit)) (now (work .exit)) ⌝ }
+{
     let at = st.at;
     let one = read_identifier(tree, st.script.names, at);
     let Identified::Is(i, a) = one else {
@@ -147,7 +164,9 @@ fn assignment(
     work: &mut [u32],
     st: Walk,
     left: u32,
-) -> Walk {
+) -> Walk
+    ensures { λ r. ⌜ Follows Anything (now (tree .entry)) (readAssignment left) st (now (answer .entry)) (now (list .entry)) (now (work .entry)) r (now (answer .exit)) (now (list .exit)) (now (work .exit)) ⌝ }
+{
     let at = st.at;
     let place = number(tree, at);
     let Read::Number(_, a) = place else {
@@ -166,7 +185,9 @@ fn method_call(
     work: &mut [u32],
     st: Walk,
     left: u32,
-) -> Walk {
+) -> Walk
+    ensures { λ r. ⌜ Follows Anything (now (tree .entry)) (readMethodCall left) st (now (answer .entry)) (now (list .entry)) (now (work .entry)) r (now (answer .exit)) (now (list .exit)) (now (work .exit)) ⌝ }
+{
     let at = st.at;
     let one = read_identifier(tree, st.script.names, at);
     let Identified::Is(i, a) = one else {
@@ -190,7 +211,9 @@ fn method_call(
     }
 }
 
-fn loop_back(tree: &[u8], answer: &mut [u8], st: Walk) -> Walk {
+fn loop_back(tree: &[u8], answer: &mut [u8], st: Walk) -> Walk
+    ensures { λ r. ⌜ ((l w : List ℕ) → Follows Anything (now (tree .entry)) readLoop st (now (answer .entry)) l w r (now (answer .exit)) l w) ⌝ }
+{
     let at = st.at;
     let place = number(tree, at);
     let Read::Number(_, a) = place else {
@@ -202,7 +225,9 @@ fn loop_back(tree: &[u8], answer: &mut [u8], st: Walk) -> Walk {
 }
 
 // UndefinedLabel is kind 2.
-fn goto(tree: &[u8], answer: &mut [u8], work: &mut [u32], st: Walk, n: u32) -> Walk {
+fn goto(tree: &[u8], answer: &mut [u8], work: &mut [u32], st: Walk, n: u32) -> Walk
+    ensures { λ r. ⌜ ((l : List ℕ) → Follows (Worded n (now (work .entry))) (now (tree .entry)) readGoto st (now (answer .entry)) l (now (work .entry)) r (now (answer .exit)) l (now (work .exit))) ⌝ }
+{
     let at = st.at;
     let one = read_identifier(tree, st.script.names, at);
     let Identified::Is(i, a) = one else {
@@ -223,7 +248,9 @@ fn goto(tree: &[u8], answer: &mut [u8], work: &mut [u32], st: Walk, n: u32) -> W
     st.wrote(x).moved(b)
 }
 
-fn prepare(work: &mut [u32], st: Walk, label: u32, place: u32) {
+fn prepare(work: &mut [u32], st: Walk, label: u32, place: u32)
+    ensures { λ _. ⌜ Prepares st label place (now (work .entry)) (now (work .exit)) ⌝ }
+{
     if work.len() < WORDS {
         return;
     }
@@ -240,13 +267,17 @@ fn prepare(work: &mut [u32], st: Walk, label: u32, place: u32) {
 }
 
 // A goto or a label: its kind, its name, its place.
-fn jump(answer: &mut [u8], w: Wrote, kind: u32, i: Identifier, place: u32) -> Wrote {
+fn jump(answer: &mut [u8], w: Wrote, kind: u32, i: Identifier, place: u32) -> Wrote
+    ensures { λ r. ⌜ Put w (numB kind ++ (madeB i ++ numB place)) (now (answer .entry)) r (now (answer .exit)) ⌝ }
+{
     let x = then_number(answer, w, kind);
     let y = write_identifier(answer, x, i);
     then_number(answer, y, place)
 }
 
-fn label(tree: &[u8], answer: &mut [u8], work: &mut [u32], st: Walk, n: u32) -> Walk {
+fn label(tree: &[u8], answer: &mut [u8], work: &mut [u32], st: Walk, n: u32) -> Walk
+    ensures { λ r. ⌜ ((l : List ℕ) → Follows (Worded n (now (work .entry))) (now (tree .entry)) readLabel st (now (answer .entry)) l (now (work .entry)) r (now (answer .exit)) l (now (work .exit))) ⌝ }
+{
     let at = st.at;
     let one = read_identifier(tree, st.script.names, at);
     let Identified::Is(i, a) = one else {
@@ -272,7 +303,9 @@ fn label(tree: &[u8], answer: &mut [u8], work: &mut [u32], st: Walk, n: u32) -> 
     st.wrote(x).moved(b)
 }
 
-fn label_place(work: &[u32], id: u32) -> u32 {
+fn label_place(work: &[u32], id: u32) -> u32
+    ensures { λ r. ⌜ LabelPlace id (now (work .entry)) r ⌝ }
+{
     if id == 0 {
         return 0;
     }
@@ -282,7 +315,9 @@ fn label_place(work: &[u32], id: u32) -> u32 {
     word(work, SCOPES + LABEL_PLACE + (id - 1) as usize)
 }
 
-fn prune(work: &mut [u32], st: Walk, label: u32) {
+fn prune(work: &mut [u32], st: Walk, label: u32)
+    ensures { λ _. ⌜ Prunes st label (now (work .entry)) (now (work .exit)) ⌝ }
+{
     if work.len() < WORDS {
         return;
     }
@@ -302,7 +337,9 @@ fn branches(
     work: &mut [u32],
     st: Walk,
     left: u32,
-) -> Walk {
+) -> Walk
+    ensures { λ r. ⌜ Follows Anything (now (tree .entry)) (readIf left (readStmt left)) st (now (answer .entry)) (now (list .entry)) (now (work .entry)) r (now (answer .exit)) (now (list .exit)) (now (work .exit)) ⌝ }
+{
     let at = st.at;
     let place = number(tree, at);
     let Read::Number(_, a) = place else {
@@ -327,7 +364,9 @@ fn else_branch(
     work: &mut [u32],
     st: Walk,
     left: u32,
-) -> Walk {
+) -> Walk
+    ensures { λ r. ⌜ Walks (now (tree .entry)) (elseOf (readStmt left)) (stmWalk stmB) st (now (answer .entry)) (now (list .entry)) (now (work .entry)) r (now (answer .exit)) (now (list .exit)) (now (work .exit)) ⌝ }
+{
     let at = st.at;
     let tag = below(tree, 2, at);
     let Read::Number(t, a) = tag else {
@@ -353,7 +392,9 @@ fn block(
     work: &mut [u32],
     st: Walk,
     left: u32,
-) -> Walk {
+) -> Walk
+    ensures { λ r. ⌜ Follows Anything (now (tree .entry)) (readBlock (readStmt left)) st (now (answer .entry)) (now (list .entry)) (now (work .entry)) r (now (answer .exit)) (now (list .exit)) (now (work .exit)) ⌝ }
+{
     let at = st.at;
     let place = number(tree, at);
     let Read::Number(_, a) = place else {
@@ -373,7 +414,9 @@ pub fn statements(
     work: &mut [u32],
     st: Walk,
     left: u32,
-) -> Walk {
+) -> Walk
+    ensures { λ r. ⌜ Walks (now (tree .entry)) (listed (readStmt left)) stmsWalk st (now (answer .entry)) (now (list .entry)) (now (work .entry)) r (now (answer .exit)) (now (list .exit)) (now (work .exit)) ⌝ }
+{
     let at = st.at;
     let count = number(tree, at);
     let Read::Number(n, a) = count else {
@@ -391,13 +434,17 @@ pub fn statements(
 }
 
 // A body: its identifier takes the next id, after all inside.
-fn body(tree: &[u8], answer: &mut [u8], list: &mut [u32], work: &mut [u32], st: Walk) -> Walk {
+fn body(tree: &[u8], answer: &mut [u8], list: &mut [u32], work: &mut [u32], st: Walk) -> Walk
+    ensures { λ r. ⌜ Walks (now (tree .entry)) (readBody 63) bodyOkWalk st (now (answer .entry)) (now (list .entry)) (now (work .entry)) r (now (answer .exit)) (now (list .exit)) (now (work .exit)) ⌝ }
+{
     let s = statements(tree, answer, list, work, opened(st), 63);
     let r = option_expression(tree, answer, list, work, s, 63);
     body_id(tree, answer, closed(work, r, st))
 }
 
-fn body_id(tree: &[u8], answer: &mut [u8], st: Walk) -> Walk {
+fn body_id(tree: &[u8], answer: &mut [u8], st: Walk) -> Walk
+    ensures { λ r. ⌜ ((l w : List ℕ) → Walks (now (tree .entry)) ident (onward nameBody identB) st (now (answer .entry)) l w r (now (answer .exit)) l w) ⌝ }
+{
     let at = st.at;
     let one = read_identifier(tree, st.script.names, at);
     let Identified::Is(i, a) = one else {
@@ -415,7 +462,9 @@ pub fn maybe_body(
     list: &mut [u32],
     work: &mut [u32],
     st: Walk,
-) -> Walk {
+) -> Walk
+    ensures { λ r. ⌜ Walks (now (tree .entry)) (maybe (readBody 63)) bodyWalk st (now (answer .entry)) (now (list .entry)) (now (work .entry)) r (now (answer .exit)) (now (list .exit)) (now (work .exit)) ⌝ }
+{
     let at = st.at;
     let tag = below(tree, 2, at);
     let Read::Number(t, a) = tag else {

@@ -30,7 +30,7 @@ step-node = record { zero-is = refl; suc-is = λ l. refl }
 
 -- AN EXPRESSION BY ITS KIND
 
-bad-kind : (k : ℕ) → 15 ≤ k → getD exprKinds k kBadExpr ≡ kBadExpr
+pub bad-kind : (k : ℕ) → 15 ≤ k → getD exprKinds k kBadExpr ≡ kBadExpr
 unfolding exprKinds
 bad-kind k h = (elim (eqb k 15) as (λ b. eqb k 15 ≡ b → getD exprKinds k kBadExpr ≡ kBadExpr) [
   | true ↦ λ z. rw (eqb-true k 15 z)

@@ -17,6 +17,10 @@ use tree::field::read_identifier;
 use tree::number::Read;
 use tree::number::below;
 use tree::value_type::value_type;
+ghost use Prim.Native.Nat.{ℕ};
+ghost use mathlib.Core.Bool.{Bool};
+ghost use Rattle.penne.specs.Read.{readTy};
+ghost use Rattle.walk.specs.Calls.{FindsIn, ContainerAt, EdgeTo, Cyclical, ConstantIn, FoundNamed, FoundLength, FoundIn, Decides};
 
 // Who contains: a constant or structure by its row; in a structure, the place of its member.
 pub struct Holder {
@@ -25,13 +29,35 @@ pub struct Holder {
     pub member: u32,
 }
 
+// Who contains what a member names: the structure by that member, or nobody.
+pub enum Holding {
+    By(Holder),
+    Nobody,
+}
+
+// analyze_wellfoundedness, by the member's name as declared: one whose name was refused adds no edge.
+pub fn member_holder(named: bool, row: usize, place: u32) -> Holding
+    ensures { λ r. ⌜ Decides named row place r ⌝ }
+{
+    if !named {
+        return Holding::Nobody;
+    }
+    Holding::By(Holder {
+        row: row,
+        is_member: true,
+        member: place,
+    })
+}
+
 // What becomes of a containee.
 pub enum Edge {
     Fine,
     Bad(Fault),
 }
 
-pub fn find_in(work: &[u32], script: Script, kind: u32, name: u32) -> Found {
+pub fn find_in(work: &[u32], script: Script, kind: u32, name: u32) -> Found
+    ensures { λ r. ⌜ FindsIn script kind name (now (work .entry)) r ⌝ }
+{
     if work.len() < WORDS {
         return Found::Nothing;
     }
@@ -39,7 +65,9 @@ pub fn find_in(work: &[u32], script: Script, kind: u32, name: u32) -> Found {
     find_container(&work[CONTAINERS..CONTAINERS_END], count, kind, name)
 }
 
-pub fn container_at(work: &[u32], row: usize) -> Declared {
+pub fn container_at(work: &[u32], row: usize) -> Declared
+    ensures { λ r. ⌜ ContainerAt row (now (work .entry)) r ⌝ }
+{
     if work.len() < WORDS {
         return Declared {
             name: 0,
@@ -51,7 +79,9 @@ pub fn container_at(work: &[u32], row: usize) -> Declared {
 }
 
 // found_container_1, with the poison it answers.
-pub fn edge_to(work: &mut [u32], script: Script, holder: Holder, containee: usize) -> Edge {
+pub fn edge_to(work: &mut [u32], script: Script, holder: Holder, containee: usize) -> Edge
+    ensures { λ r. ⌜ EdgeTo script holder containee (now (work .entry)) r (now (work .exit)) ⌝ }
+{
     if work.len() < WORDS {
         return Edge::Fine;
     }
@@ -66,7 +96,9 @@ pub fn edge_to(work: &mut [u32], script: Script, holder: Holder, containee: usiz
 }
 
 // The error of a container that now contains itself: CyclicalConstant (14) of a constant, CyclicalStructureWithConstant (16) or CyclicalStructure (15) of a structure at its member.
-fn cyclical(work: &[u32], script: Script, holder: Holder) -> Fault {
+fn cyclical(work: &[u32], script: Script, holder: Holder) -> Fault
+    ensures { λ r. ⌜ Cyclical script holder (now (work .entry)) r ⌝ }
+{
     let row = holder.row;
     let c = container_at(work, row);
     if !holder.is_member {
@@ -104,7 +136,9 @@ fn cyclical(work: &[u32], script: Script, holder: Holder) -> Fault {
     }
 }
 
-fn constant_in(work: &[u32], script: Script, row: usize) -> Found {
+fn constant_in(work: &[u32], script: Script, row: usize) -> Found
+    ensures { λ r. ⌜ ConstantIn script row (now (work .entry)) r ⌝ }
+{
     if work.len() < WORDS {
         return Found::Nothing;
     }
@@ -120,7 +154,9 @@ pub fn found_container(
     holder: Holder,
     at: usize,
     left: u32,
-) -> Edge {
+) -> Edge
+    ensures { λ r. ⌜ ((own : Bool) → FoundIn (now (tree .entry)) (readTy left own) script holder at (now (work .entry)) r (now (work .exit))) ⌝ }
+{
     let kind = below(tree, 26, at);
     let Read::Number(k, a) = kind else {
         return Edge::Fine;
@@ -145,7 +181,9 @@ fn found_in_named_length(
     holder: Holder,
     at: usize,
     left: u32,
-) -> Edge {
+) -> Edge
+    ensures { λ r. ⌜ ((own : Bool) → FoundLength (now (tree .entry)) (readTy left own) script holder at (now (work .entry)) r (now (work .exit))) ⌝ }
+{
     let element = found_container(tree, work, script, holder, at, left);
     let Edge::Fine = element else {
         return element;
@@ -165,7 +203,9 @@ fn found_named(
     holder: Holder,
     at: usize,
     kind: u32,
-) -> Edge {
+) -> Edge
+    ensures { λ r. ⌜ FoundNamed (now (tree .entry)) script holder at kind (now (work .entry)) r (now (work .exit)) ⌝ }
+{
     let one = read_identifier(tree, script.names, at);
     let Identified::Is(i, _) = one else {
         return Edge::Fine;

@@ -2,6 +2,9 @@
 use answer::poison::then_poison;
 use answer::wrote::Wrote;
 use tree::field::Identifier;
+ghost use mathlib.Core.Path.{_≡_};
+ghost use Rattle.answer.specs.Out.{Put};
+ghost use Rattle.walk.specs.Walking.{faultB, poisonedFault, undefinedFault, duplicateFault, labelFault};
 
 pub struct Fault {
     pub kind: u32,
@@ -13,7 +16,9 @@ pub struct Fault {
     pub fourth: u32,
 }
 
-pub fn then_fault(answer: &mut [u8], w: Wrote, fault: Fault) -> Wrote {
+pub fn then_fault(answer: &mut [u8], w: Wrote, fault: Fault) -> Wrote
+    ensures { λ r. ⌜ Put w (faultB fault) (now (answer .entry)) r (now (answer .exit)) ⌝ }
+{
     then_poison(
         answer,
         w,
@@ -24,7 +29,9 @@ pub fn then_fault(answer: &mut [u8], w: Wrote, fault: Fault) -> Wrote {
 }
 
 // Poisoned, kind 0.
-pub fn poisoned() -> Fault {
+pub fn poisoned() -> Fault
+    ensures { λ r. ⌜ r ≡ poisonedFault ⌝ }
+{
     Fault {
         kind: 0,
         name: 0,
@@ -37,7 +44,9 @@ pub fn poisoned() -> Fault {
 }
 
 // UndefinedLabel (kind 2), UndefinedVariable (9), UndefinedFunction (10), UndefinedStructure (11).
-pub fn undefined(kind: u32, i: Identifier) -> Fault {
+pub fn undefined(kind: u32, i: Identifier) -> Fault
+    ensures { λ r. ⌜ r ≡ undefinedFault kind i ⌝ }
+{
     Fault {
         kind: kind,
         name: i.name,
@@ -50,7 +59,9 @@ pub fn undefined(kind: u32, i: Identifier) -> Fault {
 }
 
 // DuplicateDeclaration (kinds 3 to 8), NotACompileTimeConstant (12): the name, its own place, the place of what was declared before.
-pub fn duplicate(kind: u32, i: Identifier, before: u32) -> Fault {
+pub fn duplicate(kind: u32, i: Identifier, before: u32) -> Fault
+    ensures { λ r. ⌜ r ≡ duplicateFault kind i before ⌝ }
+{
     Fault {
         kind: kind,
         name: i.name,
@@ -63,7 +74,9 @@ pub fn duplicate(kind: u32, i: Identifier, before: u32) -> Fault {
 }
 
 // DuplicateDeclarationLabel, kind 1: the place of the label visited before it comes first.
-pub fn duplicate_label(i: Identifier, before: u32) -> Fault {
+pub fn duplicate_label(i: Identifier, before: u32) -> Fault
+    ensures { λ r. ⌜ r ≡ labelFault i before ⌝ }
+{
     Fault {
         kind: 1,
         name: i.name,

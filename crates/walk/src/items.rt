@@ -9,9 +9,18 @@ use answer::wrote::Wrote;
 use tree::field::Identifier;
 use tree::number::Read;
 use tree::poison::poison;
+ghost use Prim.Native.Nat.{ℕ};
+ghost use mathlib.Core.Path.{_≡_};
+ghost use mathlib.Core.List.{List, _++_};
+ghost use Rattle.penne.specs.Read.{readPoison};
+ghost use Rattle.penne.specs.Write.{numB};
+ghost use Rattle.answer.specs.Out.{Put};
+ghost use Rattle.walk.specs.Walking.{madeB, faultB, sayPoison, resolvedTo, Walks};
 
 // The identifier made anew: its id and authority are overwritten, name and place stay.
-pub fn resolved(i: Identifier, id: u32, authority: u32) -> Identifier {
+pub fn resolved(i: Identifier, id: u32, authority: u32) -> Identifier
+    ensures { λ r. ⌜ r ≡ resolvedTo i id authority ⌝ }
+{
     Identifier {
         name: i.name,
         place: i.place,
@@ -20,24 +29,32 @@ pub fn resolved(i: Identifier, id: u32, authority: u32) -> Identifier {
     }
 }
 
-pub fn write_identifier(answer: &mut [u8], w: Wrote, i: Identifier) -> Wrote {
+pub fn write_identifier(answer: &mut [u8], w: Wrote, i: Identifier) -> Wrote
+    ensures { λ r. ⌜ Put w (madeB i) (now (answer .entry)) r (now (answer .exit)) ⌝ }
+{
     then_identifier(answer, w, i.name, i.place, i.id, i.authority)
 }
 
 // "Maybe X" that is X: an identifier.
-pub fn write_ok(answer: &mut [u8], w: Wrote, i: Identifier) -> Wrote {
+pub fn write_ok(answer: &mut [u8], w: Wrote, i: Identifier) -> Wrote
+    ensures { λ r. ⌜ Put w (numB 0 ++ madeB i) (now (answer .entry)) r (now (answer .exit)) ⌝ }
+{
     let a = then_number(answer, w, 0);
     write_identifier(answer, a, i)
 }
 
 // A kind or tag, then a poison: what stands in the place of a part that is dropped.
-pub fn write_fault(answer: &mut [u8], w: Wrote, kind: u32, fault: Fault) -> Wrote {
+pub fn write_fault(answer: &mut [u8], w: Wrote, kind: u32, fault: Fault) -> Wrote
+    ensures { λ r. ⌜ Put w (numB kind ++ faultB fault) (now (answer .entry)) r (now (answer .exit)) ⌝ }
+{
     let a = then_number(answer, w, kind);
     then_fault(answer, a, fault)
 }
 
 // A kind or tag, then the poison that came in.
-pub fn copy_poison(tree: &[u8], answer: &mut [u8], st: Walk, kind: u32) -> Walk {
+pub fn copy_poison(tree: &[u8], answer: &mut [u8], st: Walk, kind: u32) -> Walk
+    ensures { λ r. ⌜ ((l w : List ℕ) → Walks (now (tree .entry)) readPoison (sayPoison kind) st (now (answer .entry)) l w r (now (answer .exit)) l w) ⌝ }
+{
     let at = st.at;
     let w = st.wrote;
     let end = poison(tree, st.script.names, at);

@@ -32,6 +32,13 @@ use scopes::scope::Found;
 use scopes::scope::Local;
 use scopes::scope::local_at;
 use tree::field::Identifier;
+ghost use Prim.Native.Nat.{ℕ, _≤_};
+ghost use mathlib.Core.List.{List, []};
+ghost use lib.ListN.{getD};
+ghost use Rattle.penne.specs.Scopes.{declareVariable, useStruct, useConstant, useFunction, useVariable};
+ghost use Rattle.penne.specs.Variables.{useCalled};
+ghost use Rattle.walk.specs.Walking.{Opens, Closes, Numbers, Constexpr, Declares, Uses, UsesListed};
+ghost use Rattle.walk.specs.Calls.{DeclaresBy, Pushes, FindsLocal, LocalOf, Became, PlaceOfVariable, PlaceOfLocal, NoConstant, UsesRow, UsesLocal, ListsSkip, MayBeSkipped, PoisonsLocal, FindsFunctionIn, FunctionAt};
 
 // A name that is used: the identifier made anew, or the poison in its place.
 pub enum Used {
@@ -45,7 +52,9 @@ pub enum Named {
     Not(Walk, Fault),
 }
 
-fn find_local(work: &[u32], st: Walk, name: u32) -> Found {
+fn find_local(work: &[u32], st: Walk, name: u32) -> Found
+    ensures { λ r. ⌜ FindsLocal st name (now (work .entry)) r ⌝ }
+{
     if work.len() < WORDS {
         return Found::Nothing;
     }
@@ -53,7 +62,9 @@ fn find_local(work: &[u32], st: Walk, name: u32) -> Found {
     scope.find(&work[SCOPES..SCOPES_END], name)
 }
 
-fn local_of(work: &[u32], k: usize) -> Local {
+fn local_of(work: &[u32], k: usize) -> Local
+    ensures { λ r. ⌜ LocalOf k (now (work .entry)) r ⌝ }
+{
     if work.len() < WORDS {
         return Local {
             name: 0,
@@ -68,13 +79,9 @@ fn local_of(work: &[u32], k: usize) -> Local {
 // DECLARING: a duplicate is answered by poison, yet takes an id and stays declared.
 
 // declare_variable (kind 4), declare_parameter (5), declare_member (6): a duplicate of any name in scope, a constant's too.
-pub fn declare_variable(
-    work: &mut [u32],
-    st: Walk,
-    kind: u32,
-    i: Identifier,
-    from: usize,
-) -> Named {
+pub fn declare_variable(work: &mut [u32], st: Walk, kind: u32, i: Identifier, from: usize) -> Named
+    ensures { λ r. ⌜ DeclaresBy kind st i from (now (work .entry)) r (now (work .exit)) ⌝ }
+{
     let id = st.tables.next_id;
     let made = resolved(i, id, 1);
     let before = place_of_variable(work, st, i.name);
@@ -91,7 +98,9 @@ pub enum Place {
     Nowhere,
 }
 
-fn place_of_variable(work: &[u32], st: Walk, name: u32) -> Place {
+fn place_of_variable(work: &[u32], st: Walk, name: u32) -> Place
+    ensures { λ r. ⌜ PlaceOfVariable st name (now (work .entry)) r ⌝ }
+{
     let constant = find_in(work, st.script, 0, name);
     let Predeclared::At(row) = constant else {
         return place_of_local(work, st, name);
@@ -100,7 +109,9 @@ fn place_of_variable(work: &[u32], st: Walk, name: u32) -> Place {
     Place::At(j.place)
 }
 
-fn place_of_local(work: &[u32], st: Walk, name: u32) -> Place {
+fn place_of_local(work: &[u32], st: Walk, name: u32) -> Place
+    ensures { λ r. ⌜ PlaceOfLocal st name (now (work .entry)) r ⌝ }
+{
     let found = find_local(work, st, name);
     let Found::At(k) = found else {
         return Place::Nowhere;
@@ -110,7 +121,9 @@ fn place_of_local(work: &[u32], st: Walk, name: u32) -> Place {
 }
 
 // The last layer with one more, which takes the next id.
-fn push_variable(work: &mut [u32], st: Walk, i: Identifier, from: usize) -> Walk {
+fn push_variable(work: &mut [u32], st: Walk, i: Identifier, from: usize) -> Walk
+    ensures { λ r. ⌜ Pushes st i from (now (work .entry)) r (now (work .exit)) ⌝ }
+{
     if work.len() < WORDS {
         return st;
     }
@@ -136,7 +149,9 @@ fn push_variable(work: &mut [u32], st: Walk, i: Identifier, from: usize) -> Walk
 // USING: a use takes the id of what it finds, and authority 0.
 
 // The use of a constant or structure by its row: in a constant's value a use is an edge.
-fn use_container(work: &mut [u32], st: Walk, i: Identifier, row: usize) -> Used {
+fn use_container(work: &mut [u32], st: Walk, i: Identifier, row: usize) -> Used
+    ensures { λ r. ⌜ UsesRow st i row (now (work .entry)) r (now (work .exit)) ⌝ }
+{
     let j = container_at(work, row);
     let made = resolved(i, j.id, 0);
     let constant = st.tables.constant as usize;
@@ -156,7 +171,9 @@ fn use_container(work: &mut [u32], st: Walk, i: Identifier, row: usize) -> Used 
 }
 
 // use_struct: UndefinedStructure is kind 11.
-pub fn use_struct(work: &mut [u32], st: Walk, i: Identifier) -> Used {
+pub fn use_struct(work: &mut [u32], st: Walk, i: Identifier) -> Used
+    ensures { λ r. ⌜ Uses useStruct st i (now (work .entry)) r (now (work .exit)) ⌝ }
+{
     let found = find_in(work, st.script, 3, i.name);
     let Predeclared::At(row) = found else {
         return Used::Not(undefined(11, i));
@@ -165,7 +182,9 @@ pub fn use_struct(work: &mut [u32], st: Walk, i: Identifier) -> Used {
 }
 
 // "`use_constant` searches layer 0 first, then only to choose kind 12 or 9."
-pub fn use_constant(work: &mut [u32], st: Walk, i: Identifier) -> Used {
+pub fn use_constant(work: &mut [u32], st: Walk, i: Identifier) -> Used
+    ensures { λ r. ⌜ Uses useConstant st i (now (work .entry)) r (now (work .exit)) ⌝ }
+{
     let found = find_in(work, st.script, 0, i.name);
     let Predeclared::At(row) = found else {
         return no_constant(work, st, i);
@@ -173,7 +192,9 @@ pub fn use_constant(work: &mut [u32], st: Walk, i: Identifier) -> Used {
     use_container(work, st, i, row)
 }
 
-fn no_constant(work: &[u32], st: Walk, i: Identifier) -> Used {
+fn no_constant(work: &[u32], st: Walk, i: Identifier) -> Used
+    ensures { λ r. ⌜ NoConstant st i (now (work .entry)) r ⌝ }
+{
     let local = place_of_local(work, st, i.name);
     match local {
         Place::At(place) => Used::Not(duplicate(12, i, place)),
@@ -182,7 +203,9 @@ fn no_constant(work: &[u32], st: Walk, i: Identifier) -> Used {
 }
 
 // use_function: UndefinedFunction is kind 10.
-pub fn use_function(work: &[u32], st: Walk, i: Identifier) -> Used {
+pub fn use_function(work: &[u32], st: Walk, i: Identifier) -> Used
+    ensures { λ r. ⌜ Uses useFunction st i (now (work .entry)) r (now (work .entry)) ⌝ }
+{
     let found = find_function_in(work, st, i.name);
     let Predeclared::At(row) = found else {
         return Used::Not(undefined(10, i));
@@ -191,7 +214,9 @@ pub fn use_function(work: &[u32], st: Walk, i: Identifier) -> Used {
     Used::As(resolved(i, j.id, 0))
 }
 
-pub fn find_function_in(work: &[u32], st: Walk, name: u32) -> Predeclared {
+pub fn find_function_in(work: &[u32], st: Walk, name: u32) -> Predeclared
+    ensures { λ r. ⌜ FindsFunctionIn (st .script) name (now (work .entry)) r ⌝ }
+{
     if work.len() < WORDS {
         return Predeclared::Nothing;
     }
@@ -199,7 +224,9 @@ pub fn find_function_in(work: &[u32], st: Walk, name: u32) -> Predeclared {
     find_function(&work[FUNCTIONS..FUNCTIONS_END], count, name)
 }
 
-pub fn function_at(work: &[u32], row: usize) -> Declared {
+pub fn function_at(work: &[u32], row: usize) -> Declared
+    ensures { λ r. ⌜ FunctionAt row (now (work .entry)) r ⌝ }
+{
     if work.len() < WORDS {
         return Declared {
             name: 0,
@@ -211,7 +238,9 @@ pub fn function_at(work: &[u32], row: usize) -> Declared {
 }
 
 // The name of a call: a builtin's stays as it came.
-pub fn use_called(work: &[u32], st: Walk, i: Identifier, builtin: u32) -> Used {
+pub fn use_called(work: &[u32], st: Walk, i: Identifier, builtin: u32) -> Used
+    ensures { λ r. ⌜ Uses (λ x. useCalled x builtin) st i (now (work .entry)) r (now (work .entry)) ⌝ }
+{
     if builtin != 0 {
         return Used::As(i);
     }
@@ -225,7 +254,9 @@ pub fn use_variable(
     st: Walk,
     i: Identifier,
     from: usize,
-) -> Named {
+) -> Named
+    ensures { λ r. ⌜ UsesListed useVariable st i from (now (list .entry)) (now (work .entry)) r (now (list .exit)) (now (work .exit)) ⌝ }
+{
     let constant = find_in(work, st.script, 0, i.name);
     let Predeclared::At(row) = constant else {
         return use_local(list, work, st, i, from);
@@ -237,7 +268,9 @@ pub fn use_variable(
     }
 }
 
-fn use_local(list: &mut [u32], work: &mut [u32], st: Walk, i: Identifier, from: usize) -> Named {
+fn use_local(list: &mut [u32], work: &mut [u32], st: Walk, i: Identifier, from: usize) -> Named
+    ensures { λ r. ⌜ UsesLocal st i from (now (list .entry)) (now (work .entry)) r (now (list .exit)) (now (work .exit)) ⌝ }
+{
     let found = find_local(work, st, i.name);
     let Found::At(k) = found else {
         return Named::Not(st, undefined(9, i));
@@ -255,14 +288,18 @@ fn use_local(list: &mut [u32], work: &mut [u32], st: Walk, i: Identifier, from: 
     }
 }
 
-fn what_became(work: &[u32], k: usize) -> Fate {
+fn what_became(work: &[u32], k: usize) -> Fate
+    ensures { λ r. ⌜ Became k (now (work .entry)) r ⌝ }
+{
     if work.len() < WORDS {
         return Fate::Standing;
     }
     fate_of(&work[SCOPES..SCOPES_END], k)
 }
 
-fn poison_local(work: &mut [u32], k: usize) {
+fn poison_local(work: &mut [u32], k: usize)
+    ensures { λ r. ⌜ PoisonsLocal k (now (work .entry)) (now (work .exit)) ⌝ }
+{
     if work.len() < WORDS {
         return;
     }
@@ -270,7 +307,9 @@ fn poison_local(work: &mut [u32], k: usize) {
 }
 
 // The refused use goes into the list.
-fn list_skip(list: &mut [u32], st: Walk, from: usize, declared: Local) -> Walk {
+fn list_skip(list: &mut [u32], st: Walk, from: usize, declared: Local) -> Walk
+    ensures { λ r. ⌜ ListsSkip st from declared (now (list .entry)) r (now (list .exit)) ⌝ }
+{
     if 65535 < from {
         return st;
     }
@@ -279,7 +318,9 @@ fn list_skip(list: &mut [u32], st: Walk, from: usize, declared: Local) -> Walk {
 }
 
 // VariableDeclarationMayBeSkipped, kind 13: the names of use and label, then the places of use, declaration, goto and label.
-fn may_be_skipped(work: &[u32], i: Identifier, declared: Local, label: usize, place: u32) -> Fault {
+fn may_be_skipped(work: &[u32], i: Identifier, declared: Local, label: usize, place: u32) -> Fault
+    ensures { λ r. ⌜ MayBeSkipped (now (work .entry)) i declared label place r ⌝ }
+{
     if 1024 <= label {
         return poisoned();
     }
@@ -297,7 +338,9 @@ fn may_be_skipped(work: &[u32], i: Identifier, declared: Local, label: usize, pl
 // SCOPES
 
 // push_scope: a layer begins.
-pub fn opened(st: Walk) -> Walk {
+pub fn opened(st: Walk) -> Walk
+    ensures { λ r. ⌜ Opens st r ⌝ }
+{
     let tables = st.tables;
     let scope = tables.scope;
     st.with(Tables {
@@ -308,7 +351,9 @@ pub fn opened(st: Walk) -> Walk {
 }
 
 // pop_scope: the variables are those of `outer` again, the ids go on.
-pub fn closed(work: &mut [u32], st: Walk, outer: Walk) -> Walk {
+pub fn closed(work: &mut [u32], st: Walk, outer: Walk) -> Walk
+    ensures { λ r. ⌜ Closes st outer (now (work .entry)) r (now (work .exit)) ⌝ }
+{
     if work.len() < WORDS {
         return st;
     }
@@ -325,7 +370,9 @@ pub fn closed(work: &mut [u32], st: Walk, outer: Walk) -> Walk {
 }
 
 // create_anonymous_resolution_id: the next id is taken.
-pub fn numbered(st: Walk) -> Walk {
+pub fn numbered(st: Walk) -> Walk
+    ensures { λ r. ⌜ Numbers st r ⌝ }
+{
     let tables = st.tables;
     let scope = tables.scope;
     st.with(Tables {
@@ -336,7 +383,9 @@ pub fn numbered(st: Walk) -> Walk {
 }
 
 // Another `in_constexpr_of_constant`.
-pub fn in_constexpr_of(st: Walk, constant: u32) -> Walk {
+pub fn in_constexpr_of(st: Walk, constant: u32) -> Walk
+    ensures { λ r. ⌜ Constexpr st constant r ⌝ }
+{
     let tables = st.tables;
     let scope = tables.scope;
     st.with(Tables {

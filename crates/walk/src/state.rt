@@ -2,6 +2,7 @@
 use answer::wrote::Wrote;
 use scopes::scope::Scope;
 use tree::counts::Counts;
+ghost use Rattle.walk.specs.Walking.{Moves, Writes, Lists, Counted, Takes};
 
 // What does not change once all is predeclared: how many names, constants and structures, functions there are, and which name is `main` (as many as there are names, where none is).
 pub struct Script {
@@ -29,13 +30,17 @@ pub struct Walk {
 }
 
 impl Walk {
-    pub fn moved(self, at: usize) -> Self {
+    pub fn moved(self, at: usize) -> Self
+        ensures { λ r. ⌜ Moves self at r ⌝ }
+    {
         let mut s = self;
         s.at = at;
         s
     }
 
-    pub fn wrote(self, wrote: Wrote) -> Self {
+    pub fn wrote(self, wrote: Wrote) -> Self
+        ensures { λ r. ⌜ Writes self wrote r ⌝ }
+    {
         let listed = self.listed;
         let counts = self.counts;
         let tables = self.tables;
@@ -50,7 +55,9 @@ impl Walk {
         }
     }
 
-    pub fn listed(self, listed: Wrote) -> Self {
+    pub fn listed(self, listed: Wrote) -> Self
+        ensures { λ r. ⌜ Lists self listed r ⌝ }
+    {
         let wrote = self.wrote;
         let counts = self.counts;
         let tables = self.tables;
@@ -65,7 +72,9 @@ impl Walk {
         }
     }
 
-    pub fn counted(self, counts: Counts) -> Self {
+    pub fn counted(self, counts: Counts) -> Self
+        ensures { λ r. ⌜ Counted self counts r ⌝ }
+    {
         let wrote = self.wrote;
         let listed = self.listed;
         let tables = self.tables;
@@ -80,7 +89,9 @@ impl Walk {
         }
     }
 
-    pub fn with(self, tables: Tables) -> Self {
+    pub fn with(self, tables: Tables) -> Self
+        ensures { λ r. ⌜ Takes self tables r ⌝ }
+    {
         let wrote = self.wrote;
         let listed = self.listed;
         let counts = self.counts;

@@ -2,12 +2,38 @@
 -- `expressions::integer` meets its contract. Assumes nothing.
 use borrow.Author.Needs.{needs}
 use native.Mathlib.Omega.{arith}
-use mathlib.Core.Path.{_∙_}
+use mathlib.Core.Path.{refl, _∙_}
+use Rattle.penne.specs.Read.{readInteger}
+use Rattle.tree.proofs.Chain.{ends-place}
+use Rattle.answer.proofs.Chain.{_▸_}
+use Rattle.walk.proofs.Leading.{walks, leads-skip, leads-unskip, leads-end}
+use Rattle.walk.proofs.Copying.{spells-join, spelled-place}
+use Rattle.walk.proofs.Carrying.{spelled-carried}
+use Rattle.expressions.proofs.Onward.{on, leads-on}
+use Rattle.expressions.proofs.Arms.{integer-is}
+use Rattle.expressions.proofs.ByKind.{raw-is}
 use Rattle.expressions.proofs.integer.Statement.{statement}
 use Rattle.expressions.proofs.integer.Tie as tie
 
+returns : tie.Need-returns
+unfolding readInteger
+returns c = λ f j l w. walks λ h a i. leads-unskip _ ((c .before .before .raw .ensures .ends) _) (c .enum-told .given .1)
+
+returns-2 : tie.Need-returns-2
+unfolding readInteger
+returns-2 c = λ f j l w. walks λ h a i. leads-skip _ ((c .before .before .before .before .before .before .raw .ensures .ends) _) (c .before .before .before .before .value .given .1) λ x1 g1. leads-unskip _ (ends-place (c .before .before .number .ensures)) (c .enum-told2 .given .1)
+
+returns-3 : tie.Need-returns-3
+unfolding readInteger
+returns-3 c = λ f j l w. walks λ h a i. leads-skip _ ((c .before .before .before .before .before .before .before .before .before .before .raw .ensures .ends) _) (c .before .before .before .before .before .before .before .before .value .given .1) λ x1 g1. leads-skip _ (ends-place (c .before .before .before .before .before .before .number .ensures)) (c .before .before .before .before .place .given .1) λ x2 g2. leads-unskip _ (c .before .before .carried .ensures) (c .enum-told3 .given .1)
+
 same-length : tie.Need-same-length
+unfolding readInteger
 same-length c = (c .before .before .before .before .then-numbers .kept .0) ∙ (c .before .before .before .before .before .before .before .before .then-copy .kept .0) ∙ (c .before .before .before .before .before .before .before .before .before .before .before .before .then-number .kept .0)
 
+returns-4 : tie.Need-returns-4
+unfolding readInteger
+returns-4 c = λ f j l w. walks λ h a i. leads-skip _ ((c .before .before .before .before .before .before .before .before .before .before .before .before .before .before .before .before .before .before .before .before .before .before .before .before .before .raw .ensures .ends) _) (c .before .before .before .before .before .before .before .before .before .before .before .before .before .before .before .before .before .before .before .before .before .before .before .value .given .1) λ x1 g1. leads-skip _ (ends-place (c .before .before .before .before .before .before .before .before .before .before .before .before .before .before .before .before .before .before .before .before .before .number .ensures)) (c .before .before .before .before .before .before .before .before .before .before .before .before .before .before .before .before .before .before .before .place .given .1) λ x2 g2. leads-skip _ (c .before .before .before .before .before .before .before .before .before .before .before .before .before .before .before .before .before .carried .ensures) (c .before .before .before .before .before .before .before .before .before .before .before .before .before .before .before .typed .given .1) λ x3 g3. leads-on (c .before .wrote .ensures) (c .moved .ensures) (leads-end (f x1 x2 x3) refl (on i ((c .before .before .before .before .before .before .before .before .before .before .before .before .then-number .ensures) ▸ ((c .before .before .before .before .before .before .before .before .then-copy .ensures) ▸ (c .before .before .before .before .then-numbers .ensures))) (c .before .wrote .ensures) (c .moved .ensures)) λ _. integer-is a _ x2 x3 j (raw-is 16 _ _ g1) (spells-join (spelled-place .is _ _ _ _ g2) (spelled-carried _ .is _ _ _ _ g3)))
+
 pub integer-spec : {M : Type 1} → statement M
-integer-spec = tie.close (tie.spec (λ c κs. search needs) (λ c. search needs) (λ c. search needs) (λ c. search needs) (λ c κs. search needs) (λ c. search needs) (λ c. search needs) (λ c. search needs) (λ c κs. search needs) (λ c. search needs) (λ c. search needs) (λ c. search needs) (λ c κs. search needs) (λ c κs. search needs) (λ c κs. search needs) (λ c κs. search needs) (λ c κs. search needs) same-length (λ c. search needs))
+integer-spec = tie.close (tie.spec (λ c κs. search needs) (λ c. search needs) (λ c. search needs) returns (λ c κs. search needs) (λ c. search needs) (λ c. search needs) returns-2 (λ c κs. search needs) (λ c. search needs) (λ c. search needs) returns-3 (λ c κs. search needs) (λ c κs. search needs) (λ c κs. search needs) (λ c κs. search needs) (λ c κs. search needs) same-length returns-4)

@@ -2,21 +2,47 @@
 -- `expressions::size_of` meets its contract. Assumes nothing.
 use borrow.Author.Needs.{needs}
 use native.Mathlib.Omega.{arith}
-use mathlib.Core.Path.{_∙_}
+use mathlib.Core.Path.{refl, _∙_}
+use mathlib.Core.Bool.{false}
+use Rattle.penne.specs.Read.{readSizeOf}
+use Rattle.penne.specs.Tree.{sizeOf}
+use Rattle.tree.proofs.Chain.{ends-place}
+use Rattle.walk.proofs.Leading.{walks, leads-skip, leads-unskip, leads-tried, leads-end}
+use Rattle.walk.proofs.Writing.{here-wrote}
+use Rattle.walk.proofs.Copying.{spelled-place}
+use Rattle.types.proofs.Trying.{leads-at, fine-is, bad-is}
+use Rattle.expressions.proofs.Onward.{on, leads-on}
+use Rattle.expressions.proofs.Casts.{type-instead, size-of-is, size-of-bad}
 use Rattle.expressions.proofs.size_of.Statement.{statement}
 use Rattle.expressions.proofs.size_of.Tie as tie
 
+returns : tie.Need-returns
+unfolding readSizeOf
+returns c = λ l. walks λ h a i. leads-unskip _ (ends-place (c .before .before .number .ensures)) (c .enum-told .given .1)
+
 same-length : tie.Need-same-length
+unfolding readSizeOf
 same-length c = (c .before .before .before .before .before .before .before .value-type .kept .1 .0) ∙ (c .before .before .before .before .before .before .before .before .before .before .before .before .before .before .then-head .kept .0)
 
 same-length-2 : tie.Need-same-length-2
+unfolding readSizeOf
 same-length-2 c = (c .before .before .before .before .before .before .before .value-type .kept .1 .1 .0)
 
+returns-2 : tie.Need-returns-2
+unfolding readSizeOf
+returns-2 c = λ l. walks λ h a i. leads-skip _ (ends-place (c .before .before .before .before .before .before .before .before .before .before .before .before .before .before .before .before .before .before .before .number .ensures)) (c .before .before .before .before .before .before .before .before .before .before .before .before .before .before .before .before .before .place .given .1) λ x1 g1. leads-on (c .before .before .before .before .before .before .before .before .before .wrote .ensures) (c .before .before .before .before .before .before .before .before .moved .ensures) (leads-tried _ (fine-is (c .before .typed .given .1) ((c .before .before .before .before .before .before .before .value-type .ensures) false _)) h (on i (c .before .before .before .before .before .before .before .before .before .before .before .before .before .before .then-head .ensures) (c .before .before .before .before .before .before .before .before .before .wrote .ensures) (c .before .before .before .before .before .before .before .before .moved .ensures)) λ x _ i₁ told. leads-end (sizeOf x1 x) refl i₁ (size-of-is _ a x1 x (spelled-place .is _ _ _ _ g1) told))
+
 same-length-3 : tie.Need-same-length-3
+unfolding readSizeOf
 same-length-3 c = (c .before .before .before .write-fault .kept .0) ∙ (c .before .before .before .before .before .before .before .before .before .before .before .before .value-type .kept .1 .0) ∙ (c .before .before .before .before .before .before .before .before .before .before .before .before .before .before .before .before .before .before .before .then-head .kept .0)
 
 same-length-4 : tie.Need-same-length-4
+unfolding readSizeOf
 same-length-4 c = (c .before .before .before .before .before .before .before .before .before .before .before .before .value-type .kept .1 .1 .0)
 
+returns-3 : tie.Need-returns-3
+unfolding readSizeOf
+returns-3 c = λ l. walks λ h a i. leads-skip _ (ends-place (c .before .before .before .before .before .before .before .before .before .before .before .before .before .before .before .before .before .before .before .before .before .before .before .before .number .ensures)) (c .before .before .before .before .before .before .before .before .before .before .before .before .before .before .before .before .before .before .before .before .before .before .place .given .1) λ x1 g1. leads-on (c .before .before .before .before .before .before .before .before .before .before .before .before .before .before .wrote .ensures) (c .before .before .before .before .before .before .before .before .before .before .before .before .before .moved .ensures) (leads-tried _ (bad-is (c .before .before .before .before .before .before .typed2 .given .1) ((c .before .before .before .before .before .before .before .before .before .before .before .before .value-type .ensures) false _)) h (on i (c .before .before .before .before .before .before .before .before .before .before .before .before .before .before .before .before .before .before .before .then-head .ensures) (c .before .before .before .before .before .before .before .before .before .before .before .before .before .before .wrote .ensures) (c .before .before .before .before .before .before .before .before .before .before .before .before .before .moved .ensures)) λ x _ i₁ told. leads-at (here-wrote (c .wrote2 .ensures)) (leads-end (sizeOf x1 x) refl (type-instead _ x i i₁ (c .before .before .before .write-fault .ensures) (c .wrote2 .ensures)) (size-of-bad _ a x1 x told)))
+
 pub size-of-spec : {M : Type 1} → statement M
-size-of-spec = tie.close (tie.spec (λ c κs. search needs) (λ c. search needs) (λ c. search needs) (λ c. search needs) (λ c κs. search needs) (λ c κs. search needs) (λ c κs. search needs) (λ c κs. search needs) (λ c. search needs) (λ c. search needs) (λ c κs. search needs) (λ c κs. search needs) same-length same-length-2 (λ c. search needs) same-length-3 same-length-4 (λ c. search needs))
+size-of-spec = tie.close (tie.spec (λ c κs. search needs) (λ c. search needs) (λ c. search needs) returns (λ c κs. search needs) (λ c κs. search needs) (λ c κs. search needs) (λ c κs. search needs) (λ c. search needs) (λ c. search needs) (λ c κs. search needs) (λ c κs. search needs) same-length same-length-2 returns-2 same-length-3 same-length-4 returns-3)

@@ -2,17 +2,26 @@
 -- `hurdlebraid::tell` meets its contract. Assumes nothing.
 use borrow.Author.Needs.{needs}
 use native.Mathlib.Omega.{arith}
-use mathlib.Core.Path.{_≡_}
 use Prim.Native.Nat.{_-_}
 use lib.ListN.{length}
+use Rattle.hurdlebraid.proofs.Telling.{Telling, telling-start, telling-more, telling-done}
 use Rattle.hurdlebraid.proofs.tell.Statement.{statement}
 use Rattle.hurdlebraid.proofs.tell.Tie as tie
 
 abbrev Inv-loop : tie.InvT-loop
-Inv-loop outcome₀ number place first second i₀ outcome i = length outcome ≡ length outcome₀
+Inv-loop outcome₀ number place first second i₀ outcome i = Telling (record { number = number; place = place; first = first; second = second }) i outcome₀ outcome
 
 abbrev μ-loop : tie.MeasureT-loop
 μ-loop outcome₀ number place first second i₀ outcome i = length outcome₀ - i
 
+loop-holds : tie.Need-loop-holds Inv-loop μ-loop
+loop-holds c = telling-start
+
+loop-again : tie.Need-loop-again Inv-loop μ-loop
+loop-again c = telling-more (c .before .before .loop .inv) (c .before .loop-test .taken) (c .told .ensures)
+
+returns : tie.Need-returns Inv-loop μ-loop
+returns c = telling-done (c .before .loop .inv) (c .loop-test .left)
+
 pub tell-spec : {M : Type 1} → statement M
-tell-spec = tie.close (tie.spec Inv-loop μ-loop (λ c. search needs) (λ c κs. search needs) (λ c. search needs) (λ c. search needs) (λ c. search needs) (λ c. search needs) (λ c. search needs) (λ c. search needs) (λ c. search needs))
+tell-spec = tie.close (tie.spec Inv-loop μ-loop loop-holds (λ c κs. search needs) (λ c. search needs) (λ c. search needs) (λ c. search needs) (λ c. search needs) loop-again (λ c. search needs) returns)

@@ -3,6 +3,7 @@
 use borrow.Author.Needs.{needs}
 use native.Mathlib.Omega.{arith}
 use mathlib.Core.Path.{_∙_}
+use Rattle.statements.proofs.Bodies.{bodied}
 use Rattle.statements.proofs.body.Statement.{statement}
 use Rattle.statements.proofs.body.Tie as tie
 
@@ -15,5 +16,8 @@ same-length-2 c = (c .before .before .before .before .before .before .before .be
 same-length-3 : tie.Need-same-length-3
 same-length-3 c = (c .before .before .before .before .before .closed .kept .0) ∙ (c .before .before .before .before .before .before .before .before .before .before .before .before .before .before .option-expression .kept .1 .1 .1 .0) ∙ (c .before .before .before .before .before .before .before .before .before .before .before .before .before .before .before .before .before .before .before .before .before .before .before .before .statements .kept .1 .1 .1 .0)
 
+returns : tie.Need-returns
+returns c = bodied (c .before .before .before .before .before .before .before .before .before .before .before .before .before .before .before .before .before .before .before .before .before .before .before .before .before .opened .ensures) (c .before .before .before .before .before .before .before .before .before .before .before .before .before .before .before .before .before .before .before .before .before .before .before .before .statements .ensures) (c .before .before .before .before .before .before .before .before .before .before .before .before .before .before .option-expression .ensures) (c .before .before .before .before .before .closed .ensures) ((c .before .before .body-id .ensures) _ _)
+
 pub body-spec : {M : Type 1} → statement M
-body-spec = tie.close (tie.spec (λ c κs. search needs) (λ c κs. search needs) (λ c κs. search needs) (λ c κs. search needs) (λ c κs. search needs) same-length same-length-2 same-length-3 (λ c. search needs))
+body-spec = tie.close (tie.spec (λ c κs. search needs) (λ c κs. search needs) (λ c κs. search needs) (λ c κs. search needs) (λ c κs. search needs) same-length same-length-2 same-length-3 returns)

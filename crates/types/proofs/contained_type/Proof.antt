@@ -3,29 +3,60 @@
 use borrow.Author.Needs.{needs}
 use native.Mathlib.Omega.{arith}
 use mathlib.Core.Path.{_∙_}
+use Rattle.types.proofs.Trying.{fine-is, bad-is}
+use Rattle.types.proofs.Contained.{contained-unread, contained-poison, contained-bad, contained-fine, contained-late}
+use mathlib.Core.Bool.{true}
+use Rattle.types.specs.Typing.{walkOf, faultOf}
 use Rattle.types.proofs.contained_type.Statement.{statement}
 use Rattle.types.proofs.contained_type.Tie as tie
 
+returns : tie.Need-returns
+unfolding walkOf faultOf
+returns c = λ l. contained-unread _ (c .before .before .below .ensures) (c .enum-told .given .1)
+
 same-length : tie.Need-same-length
+unfolding walkOf faultOf
 same-length c = (c .before .before .copy-poison .kept .1 .0)
 
+returns-2 : tie.Need-returns-2
+unfolding walkOf faultOf
+returns-2 c = λ l. contained-poison _ (c .before .before .before .before .before .before .before .before .before .below .ensures) (c .before .before .before .before .before .before .before .tag .given .1) (c .before .before .before .before .before .if1 .taken) (c .before .before .before .moved .ensures) ((c .before .before .copy-poison .ensures) l _)
+
 same-length-2 : tie.Need-same-length-2
+unfolding walkOf faultOf
 same-length-2 c = (c .before .before .before .before .before .before .before .before .before .before .before .before .before .value-type .kept .1 .0) ∙ (c .before .before .before .before .before .before .before .before .before .before .before .before .before .before .before .before .before .before .before .before .then-number .kept .0)
 
 same-length-3 : tie.Need-same-length-3
+unfolding walkOf faultOf
 same-length-3 c = (c .before .before .before .before .found-container .kept .1 .0) ∙ (c .before .before .before .before .before .before .before .before .before .before .before .before .before .value-type .kept .1 .1 .0)
 
+returns-3 : tie.Need-returns-3
+unfolding walkOf faultOf
+returns-3 c = λ l. contained-fine _ (c .before .before .before .before .before .before .before .before .before .before .before .before .before .before .before .before .before .before .before .before .before .before .before .before .before .before .below .ensures) (c .before .before .before .before .before .before .before .before .before .before .before .before .before .before .before .before .before .before .before .before .before .before .before .before .tag .given .1) (c .before .before .before .before .before .before .before .before .before .before .before .before .before .before .before .before .before .before .before .before .before .before .if1 .left) (c .before .before .before .before .before .before .before .before .before .before .before .before .before .before .before .before .before .before .before .before .then-number .ensures) (c .before .before .before .before .before .before .before .before .before .before .before .before .before .before .before .wrote .ensures) (c .before .before .before .before .before .before .before .before .before .before .before .before .before .before .moved2 .ensures) (fine-is (c .before .before .before .before .before .before .before .typed .given .1) ((c .before .before .before .before .before .before .before .before .before .before .before .before .before .value-type .ensures) true l)) ((c .before .before .before .before .found-container .ensures) true) (c .enum-told2 .given .1)
+
 same-length-4 : tie.Need-same-length-4
+unfolding walkOf faultOf
 same-length-4 c = (c .before .before .before .write-fault .kept .0) ∙ (c .before .before .before .before .before .before .before .before .before .before .before .before .before .before .before .before .before .before .before .value-type .kept .1 .0) ∙ (c .before .before .before .before .before .before .before .before .before .before .before .before .before .before .before .before .before .before .before .before .before .before .before .before .before .before .then-number .kept .0)
 
 same-length-5 : tie.Need-same-length-5
+unfolding walkOf faultOf
 same-length-5 c = (c .before .before .before .before .before .before .before .before .before .before .found-container .kept .1 .0) ∙ (c .before .before .before .before .before .before .before .before .before .before .before .before .before .before .before .before .before .before .before .value-type .kept .1 .1 .0)
 
+returns-4 : tie.Need-returns-4
+unfolding walkOf faultOf
+returns-4 c = λ l. contained-late _ (c .before .before .before .before .before .before .before .before .before .before .before .before .before .before .before .before .before .before .before .before .before .before .before .before .before .before .before .before .before .before .before .before .below .ensures) (c .before .before .before .before .before .before .before .before .before .before .before .before .before .before .before .before .before .before .before .before .before .before .before .before .before .before .before .before .before .before .tag .given .1) (c .before .before .before .before .before .before .before .before .before .before .before .before .before .before .before .before .before .before .before .before .before .before .before .before .before .before .before .before .if1 .left) (c .before .before .before .before .before .before .before .before .before .before .before .before .before .before .before .before .before .before .before .before .before .before .before .before .before .before .then-number .ensures) (c .before .before .before .before .before .before .before .before .before .before .before .before .before .before .before .before .before .before .before .before .before .wrote .ensures) (c .before .before .before .before .before .before .before .before .before .before .before .before .before .before .before .before .before .before .before .before .moved2 .ensures) (fine-is (c .before .before .before .before .before .before .before .before .before .before .before .before .before .typed .given .1) ((c .before .before .before .before .before .before .before .before .before .before .before .before .before .before .before .before .before .before .before .value-type .ensures) true l)) ((c .before .before .before .before .before .before .before .before .before .before .found-container .ensures) true) (c .before .before .before .before .before .before .edge .given .1) (c .before .before .before .write-fault .ensures) (c .wrote2 .ensures)
+
 same-length-6 : tie.Need-same-length-6
+unfolding walkOf faultOf
 same-length-6 c = (c .before .before .before .write-fault2 .kept .0) ∙ (c .before .before .before .before .before .before .before .before .before .before .before .before .value-type .kept .1 .0) ∙ (c .before .before .before .before .before .before .before .before .before .before .before .before .before .before .before .before .before .before .before .then-number .kept .0)
 
 same-length-7 : tie.Need-same-length-7
+unfolding walkOf faultOf
 same-length-7 c = (c .before .before .before .before .before .before .before .before .before .before .before .before .value-type .kept .1 .1 .0)
 
+returns-5 : tie.Need-returns-5
+unfolding walkOf faultOf
+returns-5 c = λ l. contained-bad _ (c .before .before .before .before .before .before .before .before .before .before .before .before .before .before .before .before .before .before .before .before .before .before .before .before .before .below .ensures) (c .before .before .before .before .before .before .before .before .before .before .before .before .before .before .before .before .before .before .before .before .before .before .before .tag .given .1) (c .before .before .before .before .before .before .before .before .before .before .before .before .before .before .before .before .before .before .before .before .before .if1 .left) (c .before .before .before .before .before .before .before .before .before .before .before .before .before .before .before .before .before .before .before .then-number .ensures) (c .before .before .before .before .before .before .before .before .before .before .before .before .before .before .wrote .ensures) (c .before .before .before .before .before .before .before .before .before .before .before .before .before .moved2 .ensures) (bad-is (c .before .before .before .before .before .before .typed2 .given .1) ((c .before .before .before .before .before .before .before .before .before .before .before .before .value-type .ensures) true l)) (c .before .before .before .write-fault2 .ensures) (c .wrote3 .ensures)
+
 pub contained-type-spec : {M : Type 1} → statement M
-contained-type-spec = tie.close (tie.spec (λ c κs. search needs) (λ c. search needs) (λ c. search needs) (λ c. search needs) (λ c κs. search needs) (λ c κs. search needs) same-length (λ c. search needs) (λ c κs. search needs) (λ c κs. search needs) (λ c κs. search needs) (λ c κs. search needs) (λ c. search needs) (λ c κs. search needs) (λ c. search needs) (λ c. search needs) (λ c κs. search needs) (λ c κs. search needs) (λ c. search needs) (λ c κs. search needs) (λ c κs. search needs) same-length-2 same-length-3 (λ c. search needs) same-length-4 same-length-5 (λ c. search needs) same-length-6 same-length-7 (λ c. search needs))
+contained-type-spec = tie.close (tie.spec (λ c κs. search needs) (λ c. search needs) (λ c. search needs) returns (λ c κs. search needs) (λ c κs. search needs) same-length returns-2 (λ c κs. search needs) (λ c κs. search needs) (λ c κs. search needs) (λ c κs. search needs) (λ c. search needs) (λ c κs. search needs) (λ c. search needs) (λ c. search needs) (λ c κs. search needs) (λ c κs. search needs) (λ c. search needs) (λ c κs. search needs) (λ c κs. search needs) same-length-2 same-length-3 returns-3 same-length-4 same-length-5 returns-4 same-length-6 same-length-7 returns-5)

@@ -2,18 +2,38 @@
 -- `types::structure` meets its contract. Assumes nothing.
 use borrow.Author.Needs.{needs}
 use native.Mathlib.Omega.{arith}
-use mathlib.Core.Path.{_∙_}
+use mathlib.Core.Path.{refl, _∙_}
+use Rattle.penne.specs.Write.{identB, placeB}
+use Rattle.answer.proofs.Chain.{_▸_}
+use Rattle.types.proofs.Trying.{name-unread, name-used, name-refused}
+use Rattle.types.specs.Typing.{walkOf, faultOf}
+use Rattle.answer.specs.Parts.{identifierB}
 use Rattle.types.proofs.structure.Statement.{statement}
 use Rattle.types.proofs.structure.Tie as tie
 
+returns : tie.Need-returns
+unfolding walkOf faultOf
+returns c = λ l. name-unread _ (c .before .before .read-identifier .ensures) (c .enum-told .given .1)
+
 same-length : tie.Need-same-length
+unfolding walkOf faultOf identifierB identB placeB
 same-length c = (c .before .before .before .before .write-identifier .kept .0) ∙ (c .before .before .before .before .before .before .before .before .then-number .kept .0)
 
 same-length-2 : tie.Need-same-length-2
+unfolding walkOf faultOf identifierB identB placeB
 same-length-2 c = (c .before .before .before .before .before .before .before .before .before .before .before .before .before .before .before .use-struct .kept .0)
 
+returns-2 : tie.Need-returns-2
+unfolding walkOf faultOf identifierB identB placeB
+returns-2 c = λ l. name-used _ (c .before .before .before .before .before .before .before .before .before .before .before .before .before .before .before .before .before .before .before .before .read-identifier .ensures) (c .before .before .before .before .before .before .before .before .before .before .before .before .before .before .before .before .before .before .one .given .1) (c .before .before .before .before .before .before .before .before .before .before .before .before .before .before .before .use-struct .ensures) (c .before .before .before .before .before .before .before .before .before .before .before .used .given .1) refl ((c .before .before .before .before .before .before .before .before .then-number .ensures) ▸ (c .before .before .before .before .write-identifier .ensures)) (c .before .wrote .ensures) (c .moved .ensures)
+
 same-length-3 : tie.Need-same-length-3
+unfolding walkOf faultOf identifierB identB placeB
 same-length-3 c = (c .before .before .before .before .before .before .use-struct .kept .0)
 
+returns-3 : tie.Need-returns-3
+unfolding walkOf faultOf identifierB identB placeB
+returns-3 c = λ l. name-refused _ (c .before .before .before .before .before .before .before .before .before .before .before .read-identifier .ensures) (c .before .before .before .before .before .before .before .before .before .one .given .1) (c .before .before .before .before .before .before .use-struct .ensures) (c .before .before .used2 .given .1) (c .moved2 .ensures)
+
 pub structure-spec : {M : Type 1} → statement M
-structure-spec = tie.close (tie.spec (λ c κs. search needs) (λ c. search needs) (λ c. search needs) (λ c. search needs) (λ c κs. search needs) (λ c. search needs) (λ c κs. search needs) (λ c κs. search needs) (λ c κs. search needs) (λ c κs. search needs) (λ c. search needs) (λ c κs. search needs) same-length same-length-2 (λ c. search needs) same-length-3 (λ c. search needs))
+structure-spec = tie.close (tie.spec (λ c κs. search needs) (λ c. search needs) (λ c. search needs) returns (λ c κs. search needs) (λ c. search needs) (λ c κs. search needs) (λ c κs. search needs) (λ c κs. search needs) (λ c κs. search needs) (λ c. search needs) (λ c κs. search needs) same-length same-length-2 returns-2 same-length-3 returns-3)

@@ -3,8 +3,17 @@
 use Prim.Native.Nat.{ℕ}
 use borrow.Author.Needs.{needs}
 use native.Mathlib.Omega.{arith}
-use mathlib.Core.Path.{_∙_}
+use mathlib.Core.Path.{refl, _∙_}
 use Prim.Native.Nat.{ℕ}
+use Rattle.penne.specs.Read.{toNodes, readArrayLiteral}
+use Rattle.penne.specs.Tree.{arrayLiteral}
+use Rattle.tree.proofs.Chain.{ends-place}
+use Rattle.walk.proofs.Leading.{walks, leads-skip, leads-unskip, leads-call, leads-end}
+use Rattle.walk.proofs.Copying.{spells-join, spelled-place}
+use Rattle.walk.proofs.Carrying.{spelled-carried}
+use Rattle.types.proofs.Trying.{leads-at}
+use Rattle.expressions.proofs.Onward.{on, leads-on}
+use Rattle.expressions.proofs.Arrays.{elements-closed, array-literal-is}
 use Rattle.expressions.proofs.+array_literal+binary+bit_cast+deref+element+expression+expression_of+expressions+function_call+item+items+length_of_array+parenthesized+reference+step+steps+structural+type_cast+unary.Lts-array_literal as lts
 use Rattle.expressions.proofs.+array_literal+binary+bit_cast+deref+element+expression+expression_of+expressions+function_call+item+items+length_of_array+parenthesized+reference+step+steps+structural+type_cast+unary.Proof.Common.{array-literal-at, expressions-below}
 use Rattle.expressions.proofs.array_id.Reads as array-id-reads
@@ -21,14 +30,29 @@ use Rattle.walk.proofs.state.Walk.wrote.Reads as wrote-reads
 abbrev calls : ℕ → lts.Claims
 calls t = (number-reads.Asked, number-reads.Learnt, carried-reads.Asked, carried-reads.Learnt, then-head-reads.Asked, then-head-reads.Learnt, wrote-reads.Asked, wrote-reads.Learnt, moved-reads.Asked, moved-reads.Learnt, opened-reads.Asked, opened-reads.Learnt, expressions-below t, expressions.Post, closed-reads.Asked, closed-reads.Learnt, array-id-reads.Asked, array-id-reads.Learnt)
 
+returns : (t : ℕ) → lts.Need-returns (calls t) (array-literal-at t) array-literal.Post
+unfolding readArrayLiteral
+returns t c = walks λ h a i. leads-unskip _ (ends-place (c .before .before .number .ensures)) (c .enum-told .given .1)
+
+returns-2 : (t : ℕ) → lts.Need-returns-2 (calls t) (array-literal-at t) array-literal.Post
+unfolding readArrayLiteral
+returns-2 t c = walks λ h a i. leads-skip _ (ends-place (c .before .before .before .before .before .before .number .ensures)) (c .before .before .before .before .place .given .1) λ x1 g1. leads-unskip _ (c .before .before .carried .ensures) (c .enum-told2 .given .1)
+
 same-length : (t : ℕ) → lts.Need-same-length (calls t) (array-literal-at t) array-literal.Post
+unfolding readArrayLiteral
 same-length t c = (c .before .before .array-id .kept .1 .0) ∙ (c .before .before .before .before .before .before .before .before .before .before .before .before .before .before .expressions .kept .1 .0) ∙ (c .before .before .before .before .before .before .before .before .before .before .before .before .before .before .before .before .before .before .before .before .before .before .before .then-head .kept .0)
 
 same-length-2 : (t : ℕ) → lts.Need-same-length-2 (calls t) (array-literal-at t) array-literal.Post
+unfolding readArrayLiteral
 same-length-2 t c = (c .before .before .before .before .before .before .before .before .before .before .before .before .before .before .expressions .kept .1 .1 .0)
 
 same-length-3 : (t : ℕ) → lts.Need-same-length-3 (calls t) (array-literal-at t) array-literal.Post
+unfolding readArrayLiteral
 same-length-3 t c = (c .before .before .before .before .before .closed .kept .0) ∙ (c .before .before .before .before .before .before .before .before .before .before .before .before .before .before .expressions .kept .1 .1 .1 .0)
 
+returns-3 : (t : ℕ) → lts.Need-returns-3 (calls t) (array-literal-at t) array-literal.Post
+unfolding readArrayLiteral
+returns-3 t c = walks λ h a i. leads-skip _ (ends-place (c .before .before .before .before .before .before .before .before .before .before .before .before .before .before .before .before .before .before .before .before .before .before .before .before .before .before .before .before .before .before .before .before .number .ensures)) (c .before .before .before .before .before .before .before .before .before .before .before .before .before .before .before .before .before .before .before .before .before .before .before .before .before .before .before .before .before .before .place .given .1) λ x1 g1. leads-skip _ (c .before .before .before .before .before .before .before .before .before .before .before .before .before .before .before .before .before .before .before .before .before .before .before .before .before .before .before .before .carried .ensures) (c .before .before .before .before .before .before .before .before .before .before .before .before .before .before .before .before .before .before .before .before .before .before .before .before .before .before .element .given .1) λ x2 g2. leads-on (c .before .before .before .before .before .before .before .before .before .before .before .before .before .before .before .before .before .wrote .ensures) (c .before .before .before .before .before .before .before .before .before .before .before .before .before .before .before .before .moved .ensures) (leads-at (c .before .before .before .before .before .before .before .before .before .before .before .before .before .before .before .opened .ensures .cur) (leads-call _ (c .before .before .before .before .before .before .before .before .before .before .before .before .before .before .expressions .ensures) h ((c .before .before .before .before .before .before .before .before .before .before .before .before .before .before .before .opened .ensures .is) (on i (c .before .before .before .before .before .before .before .before .before .before .before .before .before .before .before .before .before .before .before .before .before .before .before .then-head .ensures) (c .before .before .before .before .before .before .before .before .before .before .before .before .before .before .before .before .before .wrote .ensures) (c .before .before .before .before .before .before .before .before .before .before .before .before .before .before .before .before .moved .ensures))) λ es _ i₁. leads-at (c .before .before .before .before .before .closed .ensures .cur) (leads-call _ ((c .before .before .array-id .ensures) _ _) h (elements-closed es _ a (c .before .before .before .before .before .closed .ensures) i i₁) λ n _ i₂. leads-end (arrayLiteral x1 x2 (toNodes es) n) refl i₂ λ _. array-literal-is a x1 x2 es n (spells-join (spelled-place .is _ _ _ _ g1) (spelled-carried _ .is _ _ _ _ g2)))))
+
 pub met : {M : Type 1} (t : ℕ) → lts.Closed (calls t) (array-literal-at t) array-literal.Post M
-met t = lts.spec (calls t) (array-literal-at t) array-literal.Post (λ c κs. search needs) (λ c. search needs) (λ c. search needs) (λ c. search needs) (λ c κs. search needs) (λ c. search needs) (λ c. search needs) (λ c. search needs) (λ c κs. search needs) (λ c κs. search needs) (λ c κs. search needs) (λ c κs. search needs) (λ c κs. omega (arith, (c .before .before .before .before .before .before .before .before .before .before .before .before .before .before .before .before .before .before .before .before .before .before .pre))) (λ c κs. search needs) (λ c κs. search needs) (same-length t) (same-length-2 t) (same-length-3 t) (λ c. search needs)
+met t = lts.spec (calls t) (array-literal-at t) array-literal.Post (λ c κs. search needs) (λ c. search needs) (λ c. search needs) (returns t) (λ c κs. search needs) (λ c. search needs) (λ c. search needs) (returns-2 t) (λ c κs. search needs) (λ c κs. search needs) (λ c κs. search needs) (λ c κs. search needs) (λ c κs. omega (arith, (c .before .before .before .before .before .before .before .before .before .before .before .before .before .before .before .before .before .before .before .before .before .before .pre))) (λ c κs. search needs) (λ c κs. search needs) (same-length t) (same-length-2 t) (same-length-3 t) (returns-3 t)

@@ -3,8 +3,15 @@
 use Prim.Native.Nat.{ℕ}
 use borrow.Author.Needs.{needs}
 use native.Mathlib.Omega.{arith}
-use mathlib.Core.Path.{_∙_}
+use mathlib.Core.Path.{refl, _∙_}
 use Prim.Native.Nat.{ℕ}
+use Rattle.penne.specs.Read.{readBitCast}
+use Rattle.penne.specs.Tree.{bitCast}
+use Rattle.walk.proofs.Leading.{walks, leads-skip, leads-unskip, leads-places, leads-unplaces, leads-call, leads-end}
+use Rattle.walk.proofs.Copying.{spells-join, spelled-places}
+use Rattle.walk.proofs.Carrying.{spelled-carried}
+use Rattle.expressions.proofs.Onward.{on, leads-on}
+use Rattle.expressions.proofs.Arms.{bit-cast-is}
 use Rattle.expressions.proofs.+array_literal+binary+bit_cast+deref+element+expression+expression_of+expressions+function_call+item+items+length_of_array+parenthesized+reference+step+steps+structural+type_cast+unary.Lts-bit_cast as lts
 use Rattle.expressions.proofs.+array_literal+binary+bit_cast+deref+element+expression+expression_of+expressions+function_call+item+items+length_of_array+parenthesized+reference+step+steps+structural+type_cast+unary.Proof.Common.{bit-cast-at, expression-below}
 use Rattle.expressions.proofs.bit_cast.Reads as bit-cast
@@ -18,14 +25,29 @@ use Rattle.walk.proofs.state.Walk.wrote.Reads as wrote-reads
 abbrev calls : ℕ → lts.Claims
 calls t = (two-places-reads.Asked, two-places-reads.Learnt, carried-reads.Asked, carried-reads.Learnt, then-head-reads.Asked, then-head-reads.Learnt, wrote-reads.Asked, wrote-reads.Learnt, moved-reads.Asked, moved-reads.Learnt, expression-below t, expression.Post)
 
+returns : (t : ℕ) → lts.Need-returns (calls t) (bit-cast-at t) bit-cast.Post
+unfolding readBitCast
+returns t c = walks λ h a i. leads-unplaces _ (c .before .before .two-places .ensures) (c .enum-told .given .1)
+
+returns-2 : (t : ℕ) → lts.Need-returns-2 (calls t) (bit-cast-at t) bit-cast.Post
+unfolding readBitCast
+returns-2 t c = walks λ h a i. leads-places _ (c .before .before .before .before .before .before .two-places .ensures) (c .before .before .before .before .places .given .1) λ p1 q1 g1. leads-unskip _ (c .before .before .carried .ensures) (c .enum-told2 .given .1)
+
 same-length : (t : ℕ) → lts.Need-same-length (calls t) (bit-cast-at t) bit-cast.Post
+unfolding readBitCast
 same-length t c = (c .before .before .before .before .before .before .expression .kept .1 .0) ∙ (c .before .before .before .before .before .before .before .before .before .before .before .before .before .before .then-head .kept .0)
 
 same-length-2 : (t : ℕ) → lts.Need-same-length-2 (calls t) (bit-cast-at t) bit-cast.Post
+unfolding readBitCast
 same-length-2 t c = (c .before .before .before .before .before .before .expression .kept .1 .1 .0)
 
 same-length-3 : (t : ℕ) → lts.Need-same-length-3 (calls t) (bit-cast-at t) bit-cast.Post
+unfolding readBitCast
 same-length-3 t c = (c .before .before .before .before .before .before .expression .kept .1 .1 .1 .0)
 
+returns-3 : (t : ℕ) → lts.Need-returns-3 (calls t) (bit-cast-at t) bit-cast.Post
+unfolding readBitCast
+returns-3 t c = walks λ h a i. leads-places _ (c .before .before .before .before .before .before .before .before .before .before .before .before .before .before .before .before .before .before .before .before .before .before .before .two-places .ensures) (c .before .before .before .before .before .before .before .before .before .before .before .before .before .before .before .before .before .before .before .before .before .places .given .1) λ p1 q1 g1. leads-skip _ (c .before .before .before .before .before .before .before .before .before .before .before .before .before .before .before .before .before .before .before .carried .ensures) (c .before .before .before .before .before .before .before .before .before .before .before .before .before .before .before .before .before .typed .given .1) λ x2 g2. leads-on (c .before .before .before .before .before .before .before .before .wrote .ensures) (c .before .before .before .before .before .before .before .moved .ensures) (leads-call _ (c .before .before .before .before .before .before .expression .ensures) h (on i (c .before .before .before .before .before .before .before .before .before .before .before .before .before .before .then-head .ensures) (c .before .before .before .before .before .before .before .before .wrote .ensures) (c .before .before .before .before .before .before .before .moved .ensures)) λ x _ i₁. leads-end (bitCast p1 q1 x2 x) refl i₁ λ _. bit-cast-is a p1 q1 x2 x (spells-join (spelled-places .is _ _ _ _ g1) (spelled-carried _ .is _ _ _ _ g2)))
+
 pub met : {M : Type 1} (t : ℕ) → lts.Closed (calls t) (bit-cast-at t) bit-cast.Post M
-met t = lts.spec (calls t) (bit-cast-at t) bit-cast.Post (λ c κs. search needs) (λ c. search needs) (λ c. search needs) (λ c. search needs) (λ c κs. search needs) (λ c. search needs) (λ c. search needs) (λ c. search needs) (λ c κs. search needs) (λ c κs. search needs) (λ c κs. search needs) (λ c κs. omega (arith, (c .before .before .before .before .before .before .before .before .before .before .before .before .before .before .before .before .before .before .before .before .before .pre))) (same-length t) (same-length-2 t) (same-length-3 t) (λ c. search needs)
+met t = lts.spec (calls t) (bit-cast-at t) bit-cast.Post (λ c κs. search needs) (λ c. search needs) (λ c. search needs) (returns t) (λ c κs. search needs) (λ c. search needs) (λ c. search needs) (returns-2 t) (λ c κs. search needs) (λ c κs. search needs) (λ c κs. search needs) (λ c κs. omega (arith, (c .before .before .before .before .before .before .before .before .before .before .before .before .before .before .before .before .before .before .before .before .before .pre))) (same-length t) (same-length-2 t) (same-length-3 t) (returns-3 t)

@@ -3,8 +3,14 @@
 use Prim.Native.Nat.{ℕ}
 use borrow.Author.Needs.{needs}
 use native.Mathlib.Omega.{arith}
-use mathlib.Core.Path.{_∙_}
+use mathlib.Core.Path.{refl, _∙_}
 use Prim.Native.Nat.{ℕ}
+use Rattle.penne.specs.Read.{readDeref}
+use Rattle.penne.specs.Tree.{deref}
+use Rattle.walk.proofs.Leading.{walks, leads-skip, leads-unskip, leads-call, leads-end}
+use Rattle.walk.proofs.Carrying.{spelled-carried}
+use Rattle.expressions.proofs.Onward.{on, leads-on}
+use Rattle.expressions.proofs.Arms.{deref-is}
 use Rattle.expressions.proofs.+array_literal+binary+bit_cast+deref+element+expression+expression_of+expressions+function_call+item+items+length_of_array+parenthesized+reference+step+steps+structural+type_cast+unary.Lts-deref as lts
 use Rattle.expressions.proofs.+array_literal+binary+bit_cast+deref+element+expression+expression_of+expressions+function_call+item+items+length_of_array+parenthesized+reference+step+steps+structural+type_cast+unary.Proof.Common.{deref-at, reference-below}
 use Rattle.tree.proofs.value_type.carried.Reads as carried-reads
@@ -17,14 +23,25 @@ use Rattle.walk.proofs.state.Walk.wrote.Reads as wrote-reads
 abbrev calls : ℕ → lts.Claims
 calls t = (carried-reads.Asked, carried-reads.Learnt, then-head-reads.Asked, then-head-reads.Learnt, wrote-reads.Asked, wrote-reads.Learnt, moved-reads.Asked, moved-reads.Learnt, reference-below t, reference.Post)
 
+returns : (t : ℕ) → lts.Need-returns (calls t) (deref-at t) deref.Post
+unfolding readDeref
+returns t c = walks λ h a i. leads-unskip _ (c .before .before .carried .ensures) (c .enum-told .given .1)
+
 same-length : (t : ℕ) → lts.Need-same-length (calls t) (deref-at t) deref.Post
+unfolding readDeref
 same-length t c = (c .before .before .before .before .before .before .reference .kept .1 .0) ∙ (c .before .before .before .before .before .before .before .before .before .before .before .before .before .before .then-head .kept .0)
 
 same-length-2 : (t : ℕ) → lts.Need-same-length-2 (calls t) (deref-at t) deref.Post
+unfolding readDeref
 same-length-2 t c = (c .before .before .before .before .before .before .reference .kept .1 .1 .0)
 
 same-length-3 : (t : ℕ) → lts.Need-same-length-3 (calls t) (deref-at t) deref.Post
+unfolding readDeref
 same-length-3 t c = (c .before .before .before .before .before .before .reference .kept .1 .1 .1 .0)
 
+returns-2 : (t : ℕ) → lts.Need-returns-2 (calls t) (deref-at t) deref.Post
+unfolding readDeref
+returns-2 t c = walks λ h a i. leads-skip _ (c .before .before .before .before .before .before .before .before .before .before .before .before .before .before .before .before .before .before .before .carried .ensures) (c .before .before .before .before .before .before .before .before .before .before .before .before .before .before .before .before .before .typed .given .1) λ x1 g1. leads-on (c .before .before .before .before .before .before .before .before .wrote .ensures) (c .before .before .before .before .before .before .before .moved .ensures) (leads-call _ (c .before .before .before .before .before .before .reference .ensures) h (on i (c .before .before .before .before .before .before .before .before .before .before .before .before .before .before .then-head .ensures) (c .before .before .before .before .before .before .before .before .wrote .ensures) (c .before .before .before .before .before .before .before .moved .ensures)) λ x _ i₁. leads-end (deref x1 x) refl i₁ λ _. deref-is a x1 x (spelled-carried _ .is _ _ _ _ g1))
+
 pub met : {M : Type 1} (t : ℕ) → lts.Closed (calls t) (deref-at t) deref.Post M
-met t = lts.spec (calls t) (deref-at t) deref.Post (λ c κs. search needs) (λ c. search needs) (λ c. search needs) (λ c. search needs) (λ c κs. search needs) (λ c κs. search needs) (λ c κs. search needs) (λ c κs. omega (arith, (c .before .before .before .before .before .before .before .before .before .before .before .before .before .before .before .before .before .pre))) (same-length t) (same-length-2 t) (same-length-3 t) (λ c. search needs)
+met t = lts.spec (calls t) (deref-at t) deref.Post (λ c κs. search needs) (λ c. search needs) (λ c. search needs) (returns t) (λ c κs. search needs) (λ c κs. search needs) (λ c κs. search needs) (λ c κs. omega (arith, (c .before .before .before .before .before .before .before .before .before .before .before .before .before .before .before .before .before .pre))) (same-length t) (same-length-2 t) (same-length-3 t) (returns-2 t)

@@ -3,8 +3,15 @@
 use Prim.Native.Nat.{ℕ}
 use borrow.Author.Needs.{needs}
 use native.Mathlib.Omega.{arith}
-use mathlib.Core.Path.{_∙_}
+use mathlib.Core.Path.{refl, _∙_}
 use Prim.Native.Nat.{ℕ}
+use Rattle.penne.specs.Read.{stepOf}
+use Rattle.penne.specs.Tree.{element}
+use Rattle.tree.proofs.Chain.{reads, ends-number}
+use Rattle.walk.proofs.Leading.{walks, leads-skip, leads-unskip, leads-call, leads-end}
+use Rattle.walk.proofs.Copying.{spelled-below}
+use Rattle.expressions.proofs.Onward.{on, leads-on}
+use Rattle.expressions.proofs.Arms.{element-is}
 use Rattle.expressions.proofs.+array_literal+binary+bit_cast+deref+element+expression+expression_of+expressions+function_call+item+items+length_of_array+parenthesized+reference+step+steps+structural+type_cast+unary.Lts-element as lts
 use Rattle.expressions.proofs.+array_literal+binary+bit_cast+deref+element+expression+expression_of+expressions+function_call+item+items+length_of_array+parenthesized+reference+step+steps+structural+type_cast+unary.Proof.Common.{element-at, expression-below}
 use Rattle.tree.proofs.number.below.Reads as below-reads
@@ -17,14 +24,25 @@ use Rattle.walk.proofs.state.Walk.wrote.Reads as wrote-reads
 abbrev calls : ℕ → lts.Claims
 calls t = (below-reads.Asked, below-reads.Learnt, then-head-reads.Asked, then-head-reads.Learnt, wrote-reads.Asked, wrote-reads.Learnt, moved-reads.Asked, moved-reads.Learnt, expression-below t, expression.Post)
 
+returns : (t : ℕ) → lts.Need-returns (calls t) (element-at t) element.Post
+unfolding stepOf
+returns t c = walks λ h a i. leads-unskip _ (ends-number (reads (c .before .before .below .ensures))) (c .enum-told .given .1)
+
 same-length : (t : ℕ) → lts.Need-same-length (calls t) (element-at t) element.Post
+unfolding stepOf
 same-length t c = (c .before .before .before .before .before .before .expression .kept .1 .0) ∙ (c .before .before .before .before .before .before .before .before .before .before .before .before .before .before .then-head .kept .0)
 
 same-length-2 : (t : ℕ) → lts.Need-same-length-2 (calls t) (element-at t) element.Post
+unfolding stepOf
 same-length-2 t c = (c .before .before .before .before .before .before .expression .kept .1 .1 .0)
 
 same-length-3 : (t : ℕ) → lts.Need-same-length-3 (calls t) (element-at t) element.Post
+unfolding stepOf
 same-length-3 t c = (c .before .before .before .before .before .before .expression .kept .1 .1 .1 .0)
 
+returns-2 : (t : ℕ) → lts.Need-returns-2 (calls t) (element-at t) element.Post
+unfolding stepOf
+returns-2 t c = walks λ h a i. leads-skip _ (ends-number (reads (c .before .before .before .before .before .before .before .before .before .before .before .before .before .before .before .before .before .before .before .below .ensures))) (c .before .before .before .before .before .before .before .before .before .before .before .before .before .before .before .before .before .endless .given .1) λ x1 g1. leads-on (c .before .before .before .before .before .before .before .before .wrote .ensures) (c .before .before .before .before .before .before .before .moved .ensures) (leads-call _ (c .before .before .before .before .before .before .expression .ensures) h (on i (c .before .before .before .before .before .before .before .before .before .before .before .before .before .before .then-head .ensures) (c .before .before .before .before .before .before .before .before .wrote .ensures) (c .before .before .before .before .before .before .before .moved .ensures)) λ x _ i₁. leads-end (element x1 x) refl i₁ λ _. element-is a x1 x (spelled-below 3 .is _ _ _ _ g1))
+
 pub met : {M : Type 1} (t : ℕ) → lts.Closed (calls t) (element-at t) element.Post M
-met t = lts.spec (calls t) (element-at t) element.Post (λ c κs. search needs) (λ c. search needs) (λ c. search needs) (λ c. search needs) (λ c κs. search needs) (λ c κs. search needs) (λ c κs. search needs) (λ c κs. omega (arith, (c .before .before .before .before .before .before .before .before .before .before .before .before .before .before .before .before .before .pre))) (same-length t) (same-length-2 t) (same-length-3 t) (λ c. search needs)
+met t = lts.spec (calls t) (element-at t) element.Post (λ c κs. search needs) (λ c. search needs) (λ c. search needs) (returns t) (λ c κs. search needs) (λ c κs. search needs) (λ c κs. search needs) (λ c κs. omega (arith, (c .before .before .before .before .before .before .before .before .before .before .before .before .before .before .before .before .before .pre))) (same-length t) (same-length-2 t) (same-length-3 t) (returns-2 t)

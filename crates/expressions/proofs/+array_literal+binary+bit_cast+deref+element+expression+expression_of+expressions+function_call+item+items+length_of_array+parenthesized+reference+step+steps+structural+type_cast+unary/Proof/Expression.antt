@@ -4,6 +4,11 @@ use Prim.Native.Nat.{ℕ}
 use borrow.Author.Needs.{needs}
 use native.Mathlib.Omega.{arith}
 use Prim.Native.Nat.{ℕ}
+use Rattle.tree.proofs.Chain.{reads}
+use Rattle.tree.proofs.Nodes.{expr-node}
+use Rattle.walk.proofs.Leading.{walks, node-deep, node-unread, node-in}
+use Rattle.walk.proofs.Writing.{moved}
+use Rattle.expressions.proofs.Onward.{leads-moved}
 use Rattle.expressions.proofs.+array_literal+binary+bit_cast+deref+element+expression+expression_of+expressions+function_call+item+items+length_of_array+parenthesized+reference+step+steps+structural+type_cast+unary.Lts-expression as lts
 use Rattle.expressions.proofs.+array_literal+binary+bit_cast+deref+element+expression+expression_of+expressions+function_call+item+items+length_of_array+parenthesized+reference+step+steps+structural+type_cast+unary.Proof.Common.{expression-at, expression-of-below}
 use Rattle.tree.proofs.number.below.Reads as below-reads
@@ -14,6 +19,12 @@ use Rattle.walk.proofs.state.Walk.moved.Reads as moved-reads
 abbrev calls : ℕ → lts.Claims
 calls t = (below-reads.Asked, below-reads.Learnt, moved-reads.Asked, moved-reads.Learnt, expression-of-below t, expression-of.Post)
 
+returns : (t : ℕ) → lts.Need-returns (calls t) (expression-at t) expression.Post
+returns t c = walks λ h a i. node-unread expr-node (reads (c .before .before .below .ensures)) _ (c .enum-told .given .1)
+
+returns-2 : (t : ℕ) → lts.Need-returns-2 (calls t) (expression-at t) expression.Post
+returns-2 t c = walks λ h a i. node-deep expr-node _ (c .if1 .taken)
+
 same-length : (t : ℕ) → lts.Need-same-length (calls t) (expression-at t) expression.Post
 same-length t c = (c .before .before .before .before .before .before .expression-of .kept .1 .0)
 
@@ -23,5 +34,8 @@ same-length-2 t c = (c .before .before .before .before .before .before .expressi
 same-length-3 : (t : ℕ) → lts.Need-same-length-3 (calls t) (expression-at t) expression.Post
 same-length-3 t c = (c .before .before .before .before .before .before .expression-of .kept .1 .1 .1 .0)
 
+returns-3 : (t : ℕ) → lts.Need-returns-3 (calls t) (expression-at t) expression.Post
+returns-3 t c = walks λ h a i. node-in expr-node (reads (c .before .before .before .before .before .before .before .before .before .before .before .before .before .before .before .below .ensures)) _ (c .before .before .before .before .before .before .before .before .before .before .before .if1 .left) (c .before .before .before .before .before .before .before .before .before .before .before .before .before .kind .given .1) (leads-moved (c .before .before .before .before .before .before .before .moved .ensures) ((c .before .before .before .before .before .before .expression-of .ensures) .does h a (moved i (c .before .before .before .before .before .before .before .moved .ensures))))
+
 pub met : {M : Type 1} (t : ℕ) → lts.Closed (calls t) (expression-at t) expression.Post M
-met t = lts.spec (calls t) (expression-at t) expression.Post (λ c κs. search needs) (λ c. search needs) (λ c. search needs) (λ c. search needs) (λ c. search needs) (λ c κs. search needs) (λ c. search needs) (λ c κs. omega (arith, (c .before .before .before .before .before .before .before .before .before .before .before .before .before .pre))) (same-length t) (same-length-2 t) (same-length-3 t) (λ c. search needs)
+met t = lts.spec (calls t) (expression-at t) expression.Post (λ c κs. search needs) (λ c. search needs) (λ c. search needs) (returns t) (returns-2 t) (λ c κs. search needs) (λ c. search needs) (λ c κs. omega (arith, (c .before .before .before .before .before .before .before .before .before .before .before .before .before .pre))) (same-length t) (same-length-2 t) (same-length-3 t) (returns-3 t)

@@ -4,6 +4,10 @@ use Prim.Native.Nat.{ℕ}
 use borrow.Author.Needs.{needs}
 use native.Mathlib.Omega.{arith}
 use Prim.Native.Nat.{ℕ}
+use Rattle.penne.specs.Read.{exprKinds, exprOf}
+use Rattle.tree.proofs.Nodes.{none-below-15}
+use Rattle.expressions.specs.Expressing.{is-signed, is-bits}
+use Rattle.expressions.proofs.ByKind.{walk-arm, walk-poison}
 use Rattle.expressions.proofs.+array_literal+binary+bit_cast+deref+element+expression+expression_of+expressions+function_call+item+items+length_of_array+parenthesized+reference+step+steps+structural+type_cast+unary.Lts-expression_of as lts
 use Rattle.expressions.proofs.+array_literal+binary+bit_cast+deref+element+expression+expression_of+expressions+function_call+item+items+length_of_array+parenthesized+reference+step+steps+structural+type_cast+unary.Proof.Common.{array-literal-below, binary-below, bit-cast-below, deref-below, expression-of-at, function-call-below, length-of-array-below, parenthesized-below, structural-below, type-cast-below, unary-below}
 use Rattle.expressions.proofs.array_literal.Reads as array-literal
@@ -27,100 +31,195 @@ abbrev calls : ℕ → lts.Claims
 calls t = (binary-below t, binary.Post, unary-below t, unary.Post, boolean-reads.Asked, boolean-reads.Learnt, integer-reads.Asked, integer-reads.Learnt, string-reads.Asked, string-reads.Learnt, array-literal-below t, array-literal.Post, structural-below t, structural.Post, parenthesized-below t, parenthesized.Post, deref-below t, deref.Post, bit-cast-below t, bit-cast.Post, type-cast-below t, type-cast.Post, length-of-array-below t, length-of-array.Post, size-of-reads.Asked, size-of-reads.Learnt, function-call-below t, function-call.Post, copy-poison-reads.Asked, copy-poison-reads.Learnt)
 
 same-length : (t : ℕ) → lts.Need-same-length (calls t) (expression-of-at t) expression-of.Post
+unfolding exprOf exprKinds
 same-length t c = (c .before .before .before .before .before .before .binary .kept .1 .0)
 
 same-length-2 : (t : ℕ) → lts.Need-same-length-2 (calls t) (expression-of-at t) expression-of.Post
+unfolding exprOf exprKinds
 same-length-2 t c = (c .before .before .before .before .before .before .binary .kept .1 .1 .0)
 
 same-length-3 : (t : ℕ) → lts.Need-same-length-3 (calls t) (expression-of-at t) expression-of.Post
+unfolding exprOf exprKinds
 same-length-3 t c = (c .before .before .before .before .before .before .binary .kept .1 .1 .1 .0)
 
+returns : (t : ℕ) → lts.Need-returns (calls t) (expression-of-at t) expression-of.Post
+unfolding exprOf exprKinds
+returns t c = walk-arm _ _ _ (c .before .before .before .before .before .before .before .before .before .before .match .keys1) (c .before .before .before .before .before .before .binary .ensures)
+
 same-length-4 : (t : ℕ) → lts.Need-same-length-4 (calls t) (expression-of-at t) expression-of.Post
+unfolding exprOf exprKinds
 same-length-4 t c = (c .before .before .before .before .before .before .unary .kept .1 .0)
 
 same-length-5 : (t : ℕ) → lts.Need-same-length-5 (calls t) (expression-of-at t) expression-of.Post
+unfolding exprOf exprKinds
 same-length-5 t c = (c .before .before .before .before .before .before .unary .kept .1 .1 .0)
 
 same-length-6 : (t : ℕ) → lts.Need-same-length-6 (calls t) (expression-of-at t) expression-of.Post
+unfolding exprOf exprKinds
 same-length-6 t c = (c .before .before .before .before .before .before .unary .kept .1 .1 .1 .0)
 
+returns-2 : (t : ℕ) → lts.Need-returns-2 (calls t) (expression-of-at t) expression-of.Post
+unfolding exprOf exprKinds
+returns-2 t c = walk-arm _ _ _ (c .before .before .before .before .before .before .before .before .before .before .match .keys2) (c .before .before .before .before .before .before .unary .ensures)
+
+returns-3 : (t : ℕ) → lts.Need-returns-3 (calls t) (expression-of-at t) expression-of.Post
+unfolding exprOf exprKinds
+returns-3 t c = walk-arm _ _ _ (c .before .before .before .before .match .keys3) ((c .before .before .boolean .ensures) _ _)
+
+returns-4 : (t : ℕ) → lts.Need-returns-4 (calls t) (expression-of-at t) expression-of.Post
+unfolding exprOf exprKinds
+returns-4 t c = walk-arm _ _ _ (c .before .before .before .before .match .keys4) ((c .before .before .integer .ensures) _ is-signed _ _)
+
+returns-5 : (t : ℕ) → lts.Need-returns-5 (calls t) (expression-of-at t) expression-of.Post
+unfolding exprOf exprKinds
+returns-5 t c = walk-arm _ _ _ (c .before .before .before .before .match .keys5) ((c .before .before .integer2 .ensures) _ is-bits _ _)
+
+returns-6 : (t : ℕ) → lts.Need-returns-6 (calls t) (expression-of-at t) expression-of.Post
+unfolding exprOf exprKinds
+returns-6 t c = walk-arm _ _ _ (c .before .before .before .before .match .keys6) ((c .before .before .string .ensures) _ _)
+
 same-length-11 : (t : ℕ) → lts.Need-same-length-11 (calls t) (expression-of-at t) expression-of.Post
+unfolding exprOf exprKinds
 same-length-11 t c = (c .before .before .before .before .before .before .array-literal .kept .1 .0)
 
 same-length-12 : (t : ℕ) → lts.Need-same-length-12 (calls t) (expression-of-at t) expression-of.Post
+unfolding exprOf exprKinds
 same-length-12 t c = (c .before .before .before .before .before .before .array-literal .kept .1 .1 .0)
 
 same-length-13 : (t : ℕ) → lts.Need-same-length-13 (calls t) (expression-of-at t) expression-of.Post
+unfolding exprOf exprKinds
 same-length-13 t c = (c .before .before .before .before .before .before .array-literal .kept .1 .1 .1 .0)
 
+returns-7 : (t : ℕ) → lts.Need-returns-7 (calls t) (expression-of-at t) expression-of.Post
+unfolding exprOf exprKinds
+returns-7 t c = walk-arm _ _ _ (c .before .before .before .before .before .before .before .before .before .before .match .keys7) (c .before .before .before .before .before .before .array-literal .ensures)
+
 same-length-14 : (t : ℕ) → lts.Need-same-length-14 (calls t) (expression-of-at t) expression-of.Post
+unfolding exprOf exprKinds
 same-length-14 t c = (c .before .before .before .before .before .before .structural .kept .1 .0)
 
 same-length-15 : (t : ℕ) → lts.Need-same-length-15 (calls t) (expression-of-at t) expression-of.Post
+unfolding exprOf exprKinds
 same-length-15 t c = (c .before .before .before .before .before .before .structural .kept .1 .1 .0)
 
 same-length-16 : (t : ℕ) → lts.Need-same-length-16 (calls t) (expression-of-at t) expression-of.Post
+unfolding exprOf exprKinds
 same-length-16 t c = (c .before .before .before .before .before .before .structural .kept .1 .1 .1 .0)
 
+returns-8 : (t : ℕ) → lts.Need-returns-8 (calls t) (expression-of-at t) expression-of.Post
+unfolding exprOf exprKinds
+returns-8 t c = walk-arm _ _ _ (c .before .before .before .before .before .before .before .before .before .before .match .keys8) (c .before .before .before .before .before .before .structural .ensures)
+
 same-length-17 : (t : ℕ) → lts.Need-same-length-17 (calls t) (expression-of-at t) expression-of.Post
+unfolding exprOf exprKinds
 same-length-17 t c = (c .before .before .before .before .before .before .parenthesized .kept .1 .0)
 
 same-length-18 : (t : ℕ) → lts.Need-same-length-18 (calls t) (expression-of-at t) expression-of.Post
+unfolding exprOf exprKinds
 same-length-18 t c = (c .before .before .before .before .before .before .parenthesized .kept .1 .1 .0)
 
 same-length-19 : (t : ℕ) → lts.Need-same-length-19 (calls t) (expression-of-at t) expression-of.Post
+unfolding exprOf exprKinds
 same-length-19 t c = (c .before .before .before .before .before .before .parenthesized .kept .1 .1 .1 .0)
 
+returns-9 : (t : ℕ) → lts.Need-returns-9 (calls t) (expression-of-at t) expression-of.Post
+unfolding exprOf exprKinds
+returns-9 t c = walk-arm _ _ _ (c .before .before .before .before .before .before .before .before .before .before .match .keys9) (c .before .before .before .before .before .before .parenthesized .ensures)
+
 same-length-20 : (t : ℕ) → lts.Need-same-length-20 (calls t) (expression-of-at t) expression-of.Post
+unfolding exprOf exprKinds
 same-length-20 t c = (c .before .before .before .before .before .before .deref .kept .1 .0)
 
 same-length-21 : (t : ℕ) → lts.Need-same-length-21 (calls t) (expression-of-at t) expression-of.Post
+unfolding exprOf exprKinds
 same-length-21 t c = (c .before .before .before .before .before .before .deref .kept .1 .1 .0)
 
 same-length-22 : (t : ℕ) → lts.Need-same-length-22 (calls t) (expression-of-at t) expression-of.Post
+unfolding exprOf exprKinds
 same-length-22 t c = (c .before .before .before .before .before .before .deref .kept .1 .1 .1 .0)
 
+returns-10 : (t : ℕ) → lts.Need-returns-10 (calls t) (expression-of-at t) expression-of.Post
+unfolding exprOf exprKinds
+returns-10 t c = walk-arm _ _ _ (c .before .before .before .before .before .before .before .before .before .before .match .keys10) (c .before .before .before .before .before .before .deref .ensures)
+
 same-length-23 : (t : ℕ) → lts.Need-same-length-23 (calls t) (expression-of-at t) expression-of.Post
+unfolding exprOf exprKinds
 same-length-23 t c = (c .before .before .before .before .before .before .bit-cast .kept .1 .0)
 
 same-length-24 : (t : ℕ) → lts.Need-same-length-24 (calls t) (expression-of-at t) expression-of.Post
+unfolding exprOf exprKinds
 same-length-24 t c = (c .before .before .before .before .before .before .bit-cast .kept .1 .1 .0)
 
 same-length-25 : (t : ℕ) → lts.Need-same-length-25 (calls t) (expression-of-at t) expression-of.Post
+unfolding exprOf exprKinds
 same-length-25 t c = (c .before .before .before .before .before .before .bit-cast .kept .1 .1 .1 .0)
 
+returns-11 : (t : ℕ) → lts.Need-returns-11 (calls t) (expression-of-at t) expression-of.Post
+unfolding exprOf exprKinds
+returns-11 t c = walk-arm _ _ _ (c .before .before .before .before .before .before .before .before .before .before .match .keys11) (c .before .before .before .before .before .before .bit-cast .ensures)
+
 same-length-26 : (t : ℕ) → lts.Need-same-length-26 (calls t) (expression-of-at t) expression-of.Post
+unfolding exprOf exprKinds
 same-length-26 t c = (c .before .before .before .before .before .before .type-cast .kept .1 .0)
 
 same-length-27 : (t : ℕ) → lts.Need-same-length-27 (calls t) (expression-of-at t) expression-of.Post
+unfolding exprOf exprKinds
 same-length-27 t c = (c .before .before .before .before .before .before .type-cast .kept .1 .1 .0)
 
 same-length-28 : (t : ℕ) → lts.Need-same-length-28 (calls t) (expression-of-at t) expression-of.Post
+unfolding exprOf exprKinds
 same-length-28 t c = (c .before .before .before .before .before .before .type-cast .kept .1 .1 .1 .0)
 
+returns-12 : (t : ℕ) → lts.Need-returns-12 (calls t) (expression-of-at t) expression-of.Post
+unfolding exprOf exprKinds
+returns-12 t c = walk-arm _ _ _ (c .before .before .before .before .before .before .before .before .before .before .match .keys12) (c .before .before .before .before .before .before .type-cast .ensures)
+
 same-length-29 : (t : ℕ) → lts.Need-same-length-29 (calls t) (expression-of-at t) expression-of.Post
+unfolding exprOf exprKinds
 same-length-29 t c = (c .before .before .before .before .before .before .length-of-array .kept .1 .0)
 
 same-length-30 : (t : ℕ) → lts.Need-same-length-30 (calls t) (expression-of-at t) expression-of.Post
+unfolding exprOf exprKinds
 same-length-30 t c = (c .before .before .before .before .before .before .length-of-array .kept .1 .1 .0)
 
 same-length-31 : (t : ℕ) → lts.Need-same-length-31 (calls t) (expression-of-at t) expression-of.Post
+unfolding exprOf exprKinds
 same-length-31 t c = (c .before .before .before .before .before .before .length-of-array .kept .1 .1 .1 .0)
 
+returns-13 : (t : ℕ) → lts.Need-returns-13 (calls t) (expression-of-at t) expression-of.Post
+unfolding exprOf exprKinds
+returns-13 t c = walk-arm _ _ _ (c .before .before .before .before .before .before .before .before .before .before .match .keys13) (c .before .before .before .before .before .before .length-of-array .ensures)
+
 same-length-32 : (t : ℕ) → lts.Need-same-length-32 (calls t) (expression-of-at t) expression-of.Post
+unfolding exprOf exprKinds
 same-length-32 t c = (c .before .before .before .before .size-of .kept .1 .0)
 
 same-length-33 : (t : ℕ) → lts.Need-same-length-33 (calls t) (expression-of-at t) expression-of.Post
+unfolding exprOf exprKinds
 same-length-33 t c = (c .before .before .before .before .size-of .kept .1 .1 .0)
 
+returns-14 : (t : ℕ) → lts.Need-returns-14 (calls t) (expression-of-at t) expression-of.Post
+unfolding exprOf exprKinds
+returns-14 t c = walk-arm _ _ _ (c .before .before .before .before .before .before .before .match .keys14) ((c .before .before .before .before .size-of .ensures) _)
+
 same-length-34 : (t : ℕ) → lts.Need-same-length-34 (calls t) (expression-of-at t) expression-of.Post
+unfolding exprOf exprKinds
 same-length-34 t c = (c .before .before .before .before .before .before .function-call .kept .1 .0)
 
 same-length-35 : (t : ℕ) → lts.Need-same-length-35 (calls t) (expression-of-at t) expression-of.Post
+unfolding exprOf exprKinds
 same-length-35 t c = (c .before .before .before .before .before .before .function-call .kept .1 .1 .0)
 
 same-length-36 : (t : ℕ) → lts.Need-same-length-36 (calls t) (expression-of-at t) expression-of.Post
+unfolding exprOf exprKinds
 same-length-36 t c = (c .before .before .before .before .before .before .function-call .kept .1 .1 .1 .0)
 
+returns-15 : (t : ℕ) → lts.Need-returns-15 (calls t) (expression-of-at t) expression-of.Post
+unfolding exprOf exprKinds
+returns-15 t c = walk-arm _ _ _ (c .before .before .before .before .before .before .before .before .before .before .match .keys15) (c .before .before .before .before .before .before .function-call .ensures)
+
+returns-16 : (t : ℕ) → lts.Need-returns-16 (calls t) (expression-of-at t) expression-of.Post
+returns-16 t c = walk-poison _ _ _ (none-below-15 ((c .before .before .before .before .match .rest .0 .0 .0 .0 .0 .0 .0 .0 .0 .0 .0 .0 .0 .0 .1)) ((c .before .before .before .before .match .rest .0 .0 .0 .0 .0 .0 .0 .0 .0 .0 .0 .0 .0 .1)) ((c .before .before .before .before .match .rest .0 .0 .0 .0 .0 .0 .0 .0 .0 .0 .0 .0 .1)) ((c .before .before .before .before .match .rest .0 .0 .0 .0 .0 .0 .0 .0 .0 .0 .0 .1)) ((c .before .before .before .before .match .rest .0 .0 .0 .0 .0 .0 .0 .0 .0 .0 .1)) ((c .before .before .before .before .match .rest .0 .0 .0 .0 .0 .0 .0 .0 .0 .1)) ((c .before .before .before .before .match .rest .0 .0 .0 .0 .0 .0 .0 .0 .1)) ((c .before .before .before .before .match .rest .0 .0 .0 .0 .0 .0 .0 .1)) ((c .before .before .before .before .match .rest .0 .0 .0 .0 .0 .0 .1)) ((c .before .before .before .before .match .rest .0 .0 .0 .0 .0 .1)) ((c .before .before .before .before .match .rest .0 .0 .0 .0 .1)) ((c .before .before .before .before .match .rest .0 .0 .0 .1)) ((c .before .before .before .before .match .rest .0 .0 .1)) ((c .before .before .before .before .match .rest .0 .1)) ((c .before .before .before .before .match .rest .1))) ((c .before .before .copy-poison .ensures) _ _)
+
 pub met : {M : Type 1} (t : ℕ) → lts.Closed (calls t) (expression-of-at t) expression-of.Post M
-met t = lts.spec (calls t) (expression-of-at t) expression-of.Post (λ c κs. omega (arith, (c .before .before .before .before .before .before .before .before .pre))) (λ c κs. omega (arith, (c .before .before .before .before .before .before .before .before .pre))) (λ c κs. search needs) (λ c κs. search needs) (λ c κs. search needs) (λ c κs. search needs) (λ c κs. omega (arith, (c .before .before .before .before .before .before .before .before .pre))) (λ c κs. omega (arith, (c .before .before .before .before .before .before .before .before .pre))) (λ c κs. omega (arith, (c .before .before .before .before .before .before .before .before .pre))) (λ c κs. omega (arith, (c .before .before .before .before .before .before .before .before .pre))) (λ c κs. omega (arith, (c .before .before .before .before .before .before .before .before .pre))) (λ c κs. omega (arith, (c .before .before .before .before .before .before .before .before .pre))) (λ c κs. omega (arith, (c .before .before .before .before .before .before .before .before .pre))) (λ c κs. search needs) (λ c κs. omega (arith, (c .before .before .before .before .before .before .before .before .pre))) (λ c κs. search needs) (same-length t) (same-length-2 t) (same-length-3 t) (λ c. search needs) (same-length-4 t) (same-length-5 t) (same-length-6 t) (λ c. search needs) (λ c. search needs) (λ c. search needs) (λ c. search needs) (λ c. search needs) (λ c. search needs) (λ c. search needs) (λ c. search needs) (λ c. search needs) (same-length-11 t) (same-length-12 t) (same-length-13 t) (λ c. search needs) (same-length-14 t) (same-length-15 t) (same-length-16 t) (λ c. search needs) (same-length-17 t) (same-length-18 t) (same-length-19 t) (λ c. search needs) (same-length-20 t) (same-length-21 t) (same-length-22 t) (λ c. search needs) (same-length-23 t) (same-length-24 t) (same-length-25 t) (λ c. search needs) (same-length-26 t) (same-length-27 t) (same-length-28 t) (λ c. search needs) (same-length-29 t) (same-length-30 t) (same-length-31 t) (λ c. search needs) (same-length-32 t) (same-length-33 t) (λ c. search needs) (same-length-34 t) (same-length-35 t) (same-length-36 t) (λ c. search needs) (λ c. search needs) (λ c. search needs)
+met t = lts.spec (calls t) (expression-of-at t) expression-of.Post (λ c κs. omega (arith, (c .before .before .before .before .before .before .before .before .pre))) (λ c κs. omega (arith, (c .before .before .before .before .before .before .before .before .pre))) (λ c κs. search needs) (λ c κs. search needs) (λ c κs. search needs) (λ c κs. search needs) (λ c κs. omega (arith, (c .before .before .before .before .before .before .before .before .pre))) (λ c κs. omega (arith, (c .before .before .before .before .before .before .before .before .pre))) (λ c κs. omega (arith, (c .before .before .before .before .before .before .before .before .pre))) (λ c κs. omega (arith, (c .before .before .before .before .before .before .before .before .pre))) (λ c κs. omega (arith, (c .before .before .before .before .before .before .before .before .pre))) (λ c κs. omega (arith, (c .before .before .before .before .before .before .before .before .pre))) (λ c κs. omega (arith, (c .before .before .before .before .before .before .before .before .pre))) (λ c κs. search needs) (λ c κs. omega (arith, (c .before .before .before .before .before .before .before .before .pre))) (λ c κs. search needs) (same-length t) (same-length-2 t) (same-length-3 t) (returns t) (same-length-4 t) (same-length-5 t) (same-length-6 t) (returns-2 t) (λ c. search needs) (returns-3 t) (λ c. search needs) (returns-4 t) (λ c. search needs) (returns-5 t) (λ c. search needs) (returns-6 t) (same-length-11 t) (same-length-12 t) (same-length-13 t) (returns-7 t) (same-length-14 t) (same-length-15 t) (same-length-16 t) (returns-8 t) (same-length-17 t) (same-length-18 t) (same-length-19 t) (returns-9 t) (same-length-20 t) (same-length-21 t) (same-length-22 t) (returns-10 t) (same-length-23 t) (same-length-24 t) (same-length-25 t) (returns-11 t) (same-length-26 t) (same-length-27 t) (same-length-28 t) (returns-12 t) (same-length-29 t) (same-length-30 t) (same-length-31 t) (returns-13 t) (same-length-32 t) (same-length-33 t) (returns-14 t) (same-length-34 t) (same-length-35 t) (same-length-36 t) (returns-15 t) (λ c. search needs) (returns-16 t)

@@ -3,8 +3,18 @@
 use Prim.Native.Nat.{ℕ}
 use borrow.Author.Needs.{needs}
 use native.Mathlib.Omega.{arith}
-use mathlib.Core.Path.{_∙_}
+use mathlib.Core.Path.{refl, _∙_}
 use Prim.Native.Nat.{ℕ}
+use Rattle.penne.specs.Read.{toNodes, readFunctionCall}
+use Rattle.penne.specs.Tree.{functionCall}
+use Rattle.tree.proofs.Chain.{reads}
+use Rattle.walk.proofs.Leading.{walks, leads-read, leads-unread, leads-identified, leads-unidentified, leads-skip, leads-unskip, leads-call, leads-end}
+use Rattle.walk.proofs.Writing.{moved, here-wrote}
+use Rattle.walk.proofs.Copying.{spells-join}
+use Rattle.walk.proofs.Carrying.{spelled-carried}
+use Rattle.types.proofs.Trying.{leads-at}
+use Rattle.expressions.proofs.Onward.{leads-moved}
+use Rattle.expressions.proofs.Names.{number-spelled, call-is, call-bad, call-instead, headed-is, here-headed}
 use Rattle.expressions.proofs.+array_literal+binary+bit_cast+deref+element+expression+expression_of+expressions+function_call+item+items+length_of_array+parenthesized+reference+step+steps+structural+type_cast+unary.Lts-function_call as lts
 use Rattle.expressions.proofs.+array_literal+binary+bit_cast+deref+element+expression+expression_of+expressions+function_call+item+items+length_of_array+parenthesized+reference+step+steps+structural+type_cast+unary.Proof.Common.{expressions-below, function-call-at}
 use Rattle.expressions.proofs.call_head.Reads as call-head-reads
@@ -21,23 +31,49 @@ use Rattle.walk.proofs.state.Walk.wrote.Reads as wrote-reads
 abbrev calls : ℕ → lts.Claims
 calls t = (read-identifier-reads.Asked, read-identifier-reads.Learnt, number-reads.Asked, number-reads.Learnt, carried-reads.Asked, carried-reads.Learnt, use-called-reads.Asked, use-called-reads.Learnt, call-head-reads.Asked, call-head-reads.Learnt, expressions-below t, expressions.Post, moved-reads.Asked, moved-reads.Learnt, write-fault-reads.Asked, write-fault-reads.Learnt, wrote-reads.Asked, wrote-reads.Learnt)
 
+returns : (t : ℕ) → lts.Need-returns (calls t) (function-call-at t) function-call.Post
+unfolding readFunctionCall
+returns t c = walks λ h a i. leads-unidentified _ (c .before .before .read-identifier .ensures) (c .enum-told .given .1)
+
+returns-2 : (t : ℕ) → lts.Need-returns-2 (calls t) (function-call-at t) function-call.Post
+unfolding readFunctionCall
+returns-2 t c = walks λ h a i. leads-identified _ (c .before .before .before .before .before .before .read-identifier .ensures) (c .before .before .before .before .one .given .1) (leads-unread _ (reads (c .before .before .number .ensures)) (c .enum-told2 .given .1))
+
+returns-3 : (t : ℕ) → lts.Need-returns-3 (calls t) (function-call-at t) function-call.Post
+unfolding readFunctionCall
+returns-3 t c = walks λ h a i. leads-identified _ (c .before .before .before .before .before .before .before .before .before .before .read-identifier .ensures) (c .before .before .before .before .before .before .before .before .one .given .1) (leads-read _ (reads (c .before .before .before .before .before .before .number .ensures)) (c .before .before .before .before .builtin .given .1) (leads-unskip _ (c .before .before .carried .ensures) (c .enum-told3 .given .1)))
+
 same-length : (t : ℕ) → lts.Need-same-length (calls t) (function-call-at t) function-call.Post
+unfolding readFunctionCall
 same-length t c = (c .before .before .before .before .before .before .expressions .kept .1 .0) ∙ (c .before .before .before .before .before .before .before .before .before .before .before .before .call-head .kept .1 .0)
 
 same-length-2 : (t : ℕ) → lts.Need-same-length-2 (calls t) (function-call-at t) function-call.Post
+unfolding readFunctionCall
 same-length-2 t c = (c .before .before .before .before .before .before .expressions .kept .1 .1 .0)
 
 same-length-3 : (t : ℕ) → lts.Need-same-length-3 (calls t) (function-call-at t) function-call.Post
+unfolding readFunctionCall
 same-length-3 t c = (c .before .before .before .before .before .before .expressions .kept .1 .1 .1 .0)
 
+returns-4 : (t : ℕ) → lts.Need-returns-4 (calls t) (function-call-at t) function-call.Post
+unfolding readFunctionCall
+returns-4 t c = walks λ h a i. leads-identified _ (c .before .before .before .before .before .before .before .before .before .before .before .before .before .before .before .before .before .before .before .before .before .before .before .before .before .before .before .before .before .before .read-identifier .ensures) (c .before .before .before .before .before .before .before .before .before .before .before .before .before .before .before .before .before .before .before .before .before .before .before .before .before .before .before .before .one .given .1) (leads-read _ (reads (c .before .before .before .before .before .before .before .before .before .before .before .before .before .before .before .before .before .before .before .before .before .before .before .before .before .before .number .ensures)) (c .before .before .before .before .before .before .before .before .before .before .before .before .before .before .before .before .before .before .before .before .before .before .before .before .builtin .given .1) (leads-skip _ (c .before .before .before .before .before .before .before .before .before .before .before .before .before .before .before .before .before .before .before .before .before .before .carried .ensures) (c .before .before .before .before .before .before .before .before .before .before .before .before .before .before .before .before .before .before .before .before .typed .given .1) λ x3 g3. leads-at (here-headed (c .before .before .before .before .before .before .before .before .before .before .before .before .call-head .ensures)) (leads-call _ (c .before .before .before .before .before .before .expressions .ensures) h (headed-is i (c .before .before .before .before .before .before .before .before .before .before .before .before .call-head .ensures)) λ es _ i₁. leads-end (functionCall _ _ x3 (toNodes es)) refl i₁ (call-is a _ _ x3 es (spells-join (number-spelled (c .before .before .before .before .before .before .before .before .before .before .before .before .before .before .before .before .before .before .before .before .before .before .before .before .before .before .number .ensures) (c .before .before .before .before .before .before .before .before .before .before .before .before .before .before .before .before .before .before .before .before .before .before .before .before .builtin .given .1)) (spelled-carried _ .is _ _ _ _ g3)) ((c .before .before .before .before .before .before .before .before .before .before .before .before .before .before .before .before .before .use-called .ensures .does) _ _ _ a i .made) (c .before .before .before .before .before .before .before .before .before .before .before .before .before .before .before .called .given .1)))))
+
 same-length-4 : (t : ℕ) → lts.Need-same-length-4 (calls t) (function-call-at t) function-call.Post
+unfolding readFunctionCall
 same-length-4 t c = (c .before .before .before .write-fault .kept .0) ∙ (c .before .before .before .before .before .before .before .before .before .before .before .expressions2 .kept .1 .0)
 
 same-length-5 : (t : ℕ) → lts.Need-same-length-5 (calls t) (function-call-at t) function-call.Post
+unfolding readFunctionCall
 same-length-5 t c = (c .before .before .before .before .before .before .before .before .before .before .before .expressions2 .kept .1 .1 .0)
 
 same-length-6 : (t : ℕ) → lts.Need-same-length-6 (calls t) (function-call-at t) function-call.Post
+unfolding readFunctionCall
 same-length-6 t c = (c .before .before .before .before .before .before .before .before .before .before .before .expressions2 .kept .1 .1 .1 .0)
 
+returns-5 : (t : ℕ) → lts.Need-returns-5 (calls t) (function-call-at t) function-call.Post
+unfolding readFunctionCall
+returns-5 t c = walks λ h a i. leads-identified _ (c .before .before .before .before .before .before .before .before .before .before .before .before .before .before .before .before .before .before .before .before .before .before .before .before .before .before .before .before .before .before .before .before .read-identifier .ensures) (c .before .before .before .before .before .before .before .before .before .before .before .before .before .before .before .before .before .before .before .before .before .before .before .before .before .before .before .before .before .before .one .given .1) (leads-read _ (reads (c .before .before .before .before .before .before .before .before .before .before .before .before .before .before .before .before .before .before .before .before .before .before .before .before .before .before .before .before .number .ensures)) (c .before .before .before .before .before .before .before .before .before .before .before .before .before .before .before .before .before .before .before .before .before .before .before .before .before .before .builtin .given .1) (leads-skip _ (c .before .before .before .before .before .before .before .before .before .before .before .before .before .before .before .before .before .before .before .before .before .before .before .before .carried .ensures) (c .before .before .before .before .before .before .before .before .before .before .before .before .before .before .before .before .before .before .before .before .before .before .typed .given .1) λ x3 g3. leads-moved (c .before .before .before .before .before .before .before .before .before .before .before .before .moved .ensures) (leads-call _ (c .before .before .before .before .before .before .before .before .before .before .before .expressions2 .ensures) h (moved i (c .before .before .before .before .before .before .before .before .before .before .before .before .moved .ensures)) λ es _ i₁. leads-at (here-wrote (c .wrote .ensures)) (leads-end (functionCall _ _ x3 (toNodes es)) refl (call-instead es i i₁ (c .before .before .before .write-fault .ensures) (c .wrote .ensures)) (call-bad a _ _ x3 es ((c .before .before .before .before .before .before .before .before .before .before .before .before .before .before .before .before .before .before .before .use-called .ensures .does) _ _ _ a i .made) (c .before .before .before .before .before .before .before .before .before .before .before .before .before .before .before .before .before .called2 .given .1))))))
+
 pub met : {M : Type 1} (t : ℕ) → lts.Closed (calls t) (function-call-at t) function-call.Post M
-met t = lts.spec (calls t) (function-call-at t) function-call.Post (λ c κs. search needs) (λ c. search needs) (λ c. search needs) (λ c. search needs) (λ c κs. search needs) (λ c. search needs) (λ c. search needs) (λ c. search needs) (λ c κs. search needs) (λ c. search needs) (λ c. search needs) (λ c. search needs) (λ c κs. search needs) (λ c. search needs) (λ c κs. search needs) (λ c κs. omega (arith, (c .before .before .before .before .before .before .before .before .before .before .before .before .before .before .before .before .before .before .before .before .before .before .before .before .before .before .before .before .pre))) (λ c. search needs) (λ c κs. search needs) (λ c κs. omega (arith, (c .before .before .before .before .before .before .before .before .before .before .before .before .before .before .before .before .before .before .before .before .before .before .before .before .before .pre))) (λ c κs. search needs) (λ c κs. search needs) (same-length t) (same-length-2 t) (same-length-3 t) (λ c. search needs) (same-length-4 t) (same-length-5 t) (same-length-6 t) (λ c. search needs)
+met t = lts.spec (calls t) (function-call-at t) function-call.Post (λ c κs. search needs) (λ c. search needs) (λ c. search needs) (returns t) (λ c κs. search needs) (λ c. search needs) (λ c. search needs) (returns-2 t) (λ c κs. search needs) (λ c. search needs) (λ c. search needs) (returns-3 t) (λ c κs. search needs) (λ c. search needs) (λ c κs. search needs) (λ c κs. omega (arith, (c .before .before .before .before .before .before .before .before .before .before .before .before .before .before .before .before .before .before .before .before .before .before .before .before .before .before .before .before .pre))) (λ c. search needs) (λ c κs. search needs) (λ c κs. omega (arith, (c .before .before .before .before .before .before .before .before .before .before .before .before .before .before .before .before .before .before .before .before .before .before .before .before .before .pre))) (λ c κs. search needs) (λ c κs. search needs) (same-length t) (same-length-2 t) (same-length-3 t) (returns-4 t) (same-length-4 t) (same-length-5 t) (same-length-6 t) (returns-5 t)

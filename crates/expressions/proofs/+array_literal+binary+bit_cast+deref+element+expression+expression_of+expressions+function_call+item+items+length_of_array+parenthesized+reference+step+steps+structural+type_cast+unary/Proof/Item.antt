@@ -3,8 +3,16 @@
 use Prim.Native.Nat.{ℕ}
 use borrow.Author.Needs.{needs}
 use native.Mathlib.Omega.{arith}
-use mathlib.Core.Path.{_∙_}
+use mathlib.Core.Path.{refl, _∙_}
 use Prim.Native.Nat.{ℕ}
+use Rattle.penne.specs.Read.{itemOf}
+use Rattle.penne.specs.Tree.{memberExpression}
+use Rattle.tree.proofs.Chain.{reads, ends-number}
+use Rattle.walk.proofs.Leading.{walks, leads-skip, leads-unskip, leads-call, leads-end}
+use Rattle.walk.proofs.Copying.{spells-join, spelled-num, spelled-ident}
+use Rattle.walk.proofs.Carrying.{spelled-maybe}
+use Rattle.expressions.proofs.Onward.{on, leads-on}
+use Rattle.expressions.proofs.Arms.{item-is}
 use Rattle.expressions.proofs.+array_literal+binary+bit_cast+deref+element+expression+expression_of+expressions+function_call+item+items+length_of_array+parenthesized+reference+step+steps+structural+type_cast+unary.Lts-item as lts
 use Rattle.expressions.proofs.+array_literal+binary+bit_cast+deref+element+expression+expression_of+expressions+function_call+item+items+length_of_array+parenthesized+reference+step+steps+structural+type_cast+unary.Proof.Common.{expression-below, item-at}
 use Rattle.expressions.proofs.expression.Reads as expression
@@ -18,14 +26,29 @@ use Rattle.walk.proofs.state.Walk.wrote.Reads as wrote-reads
 abbrev calls : ℕ → lts.Claims
 calls t = (maybe-identifier-reads.Asked, maybe-identifier-reads.Learnt, number-reads.Asked, number-reads.Learnt, then-numbers-reads.Asked, then-numbers-reads.Learnt, wrote-reads.Asked, wrote-reads.Learnt, moved-reads.Asked, moved-reads.Learnt, expression-below t, expression.Post)
 
+returns : (t : ℕ) → lts.Need-returns (calls t) (item-at t) item.Post
+unfolding itemOf
+returns t c = walks λ h a i. leads-unskip _ (c .before .before .maybe-identifier .ensures) (c .enum-told .given .1)
+
+returns-2 : (t : ℕ) → lts.Need-returns-2 (calls t) (item-at t) item.Post
+unfolding itemOf
+returns-2 t c = walks λ h a i. leads-skip _ (c .before .before .before .before .before .before .maybe-identifier .ensures) (c .before .before .before .before .identifier .given .1) λ x1 g1. leads-unskip _ (ends-number (reads (c .before .before .number .ensures))) (c .enum-told2 .given .1)
+
 same-length : (t : ℕ) → lts.Need-same-length (calls t) (item-at t) item.Post
+unfolding itemOf
 same-length t c = (c .before .before .before .before .before .before .expression .kept .1 .0) ∙ (c .before .before .before .before .before .before .before .before .before .before .before .before .before .before .then-numbers .kept .0)
 
 same-length-2 : (t : ℕ) → lts.Need-same-length-2 (calls t) (item-at t) item.Post
+unfolding itemOf
 same-length-2 t c = (c .before .before .before .before .before .before .expression .kept .1 .1 .0)
 
 same-length-3 : (t : ℕ) → lts.Need-same-length-3 (calls t) (item-at t) item.Post
+unfolding itemOf
 same-length-3 t c = (c .before .before .before .before .before .before .expression .kept .1 .1 .1 .0)
 
+returns-3 : (t : ℕ) → lts.Need-returns-3 (calls t) (item-at t) item.Post
+unfolding itemOf
+returns-3 t c = walks λ h a i. leads-skip _ (c .before .before .before .before .before .before .before .before .before .before .before .before .before .before .before .before .before .before .before .before .before .before .before .maybe-identifier .ensures) (c .before .before .before .before .before .before .before .before .before .before .before .before .before .before .before .before .before .before .before .before .before .identifier .given .1) λ x1 g1. leads-skip _ (ends-number (reads (c .before .before .before .before .before .before .before .before .before .before .before .before .before .before .before .before .before .before .before .number .ensures))) (c .before .before .before .before .before .before .before .before .before .before .before .before .before .before .before .before .before .offset .given .1) λ x2 g2. leads-on (c .before .before .before .before .before .before .before .before .wrote .ensures) (c .before .before .before .before .before .before .before .moved .ensures) (leads-call _ (c .before .before .before .before .before .before .expression .ensures) h (on i (c .before .before .before .before .before .before .before .before .before .before .before .before .before .before .then-numbers .ensures) (c .before .before .before .before .before .before .before .before .wrote .ensures) (c .before .before .before .before .before .before .before .moved .ensures)) λ x _ i₁. leads-end (memberExpression x1 x2 x) refl i₁ λ _. item-is a x1 x2 x (spells-join (spelled-maybe spelled-ident .is _ _ _ _ g1) (spelled-num .is _ _ _ _ g2)))
+
 pub met : {M : Type 1} (t : ℕ) → lts.Closed (calls t) (item-at t) item.Post M
-met t = lts.spec (calls t) (item-at t) item.Post (λ c κs. search needs) (λ c. search needs) (λ c. search needs) (λ c. search needs) (λ c κs. search needs) (λ c. search needs) (λ c. search needs) (λ c. search needs) (λ c κs. search needs) (λ c κs. search needs) (λ c κs. search needs) (λ c κs. omega (arith, (c .before .before .before .before .before .before .before .before .before .before .before .before .before .before .before .before .before .before .before .before .before .pre))) (same-length t) (same-length-2 t) (same-length-3 t) (λ c. search needs)
+met t = lts.spec (calls t) (item-at t) item.Post (λ c κs. search needs) (λ c. search needs) (λ c. search needs) (returns t) (λ c κs. search needs) (λ c. search needs) (λ c. search needs) (returns-2 t) (λ c κs. search needs) (λ c κs. search needs) (λ c κs. search needs) (λ c κs. omega (arith, (c .before .before .before .before .before .before .before .before .before .before .before .before .before .before .before .before .before .before .before .before .before .pre))) (same-length t) (same-length-2 t) (same-length-3 t) (returns-3 t)

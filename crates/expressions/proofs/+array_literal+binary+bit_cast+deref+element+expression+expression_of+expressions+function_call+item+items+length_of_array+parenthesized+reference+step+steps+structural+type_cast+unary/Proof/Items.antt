@@ -5,7 +5,14 @@ use borrow.Author.Needs.{needs}
 use native.Mathlib.Omega.{arith}
 use mathlib.Core.Path.{_∙_}
 use Prim.Native.Nat.{ℕ}
-use Rattle.walk.proofs.Loops.{Kept, kept-start, kept-more}
+use Rattle.penne.specs.Reader.{listed}
+use Rattle.penne.specs.Read.{itemOf, read}
+use Rattle.penne.specs.Write.{nodeB}
+use Rattle.tree.proofs.Chain.{reads}
+use Rattle.walk.specs.Walking.{onward}
+use Rattle.walk.proofs.Leading.{walks, leads-read, leads-unread, Going, going-start, going-more, going-done}
+use Rattle.expressions.specs.Expressing.{nodes}
+use Rattle.expressions.proofs.Onward.{on, leads-on, nodes-listed, leads-list}
 use Rattle.expressions.proofs.+array_literal+binary+bit_cast+deref+element+expression+expression_of+expressions+function_call+item+items+length_of_array+parenthesized+reference+step+steps+structural+type_cast+unary.Lts-items as lts
 use Rattle.expressions.proofs.+array_literal+binary+bit_cast+deref+element+expression+expression_of+expressions+function_call+item+items+length_of_array+parenthesized+reference+step+steps+structural+type_cast+unary.Proof.Common.{item-below, items-at}
 use Rattle.expressions.proofs.item.Reads as item
@@ -19,25 +26,33 @@ abbrev calls : ℕ → lts.Claims
 calls t = (number-reads.Asked, number-reads.Learnt, then-number-reads.Asked, then-number-reads.Learnt, wrote-reads.Asked, wrote-reads.Learnt, moved-reads.Asked, moved-reads.Learnt, item-below t, item.Post)
 
 abbrev Inv-loop : lts.InvT-loop
-Inv-loop tree answer₀ list₀ work₀ left at n a s₀ rest₀ answer list work s rest = Kept answer₀ list₀ work₀ answer list work
+Inv-loop tree answer₀ list₀ work₀ left at n a s₀ rest₀ answer list work s rest = Going tree (itemOf (read left)) (λ xs b. onward nodes nodeB xs b) n s₀ answer₀ list₀ work₀ rest s answer list work
 
 abbrev μ-loop : lts.MeasureT-loop
 μ-loop tree answer₀ list₀ work₀ left at n a s₀ rest₀ answer list work s rest = rest
 
+returns : (t : ℕ) → lts.Need-returns (calls t) (items-at t) items.Post Inv-loop μ-loop
+unfolding listed
+returns t c = walks λ h a i. leads-unread _ (reads (c .before .before .number .ensures)) (c .enum-told .given .1)
+
 loop-holds : (t : ℕ) → lts.Need-loop-holds (calls t) (items-at t) items.Post Inv-loop μ-loop
-loop-holds t c = kept-start
+loop-holds t c = going-start
 
 loop-again : (t : ℕ) → lts.Need-loop-again (calls t) (items-at t) items.Post Inv-loop μ-loop
-loop-again t c = kept-more (c .before .before .before .before .before .before .before .before .before .before .before .loop .inv) (c .before .before .before .before .before .before .item .kept .1 .0) (c .before .before .before .before .before .before .item .kept .1 .1 .0) (c .before .before .before .before .before .before .item .kept .1 .1 .1 .0)
+loop-again t c = going-more nodes-listed (c .before .before .before .before .before .before .before .before .before .before .before .loop .inv) (c .before .before .before .before .before .before .before .before .before .before .loop-test .taken) (c .before .before .before .before .before .before .item .ensures) (c .before .before .before .before .before .before .item .kept .1 .0) (c .before .before .before .before .before .before .item .kept .1 .1 .0) (c .before .before .before .before .before .before .item .kept .1 .1 .1 .0)
 
 same-length : (t : ℕ) → lts.Need-same-length (calls t) (items-at t) items.Post Inv-loop μ-loop
-same-length t c = (c .before .loop .inv .long-answer) ∙ (c .before .before .before .before .before .before .then-number .kept .0)
+same-length t c = (c .before .loop .inv .kept .long-answer) ∙ (c .before .before .before .before .before .before .then-number .kept .0)
 
 same-length-2 : (t : ℕ) → lts.Need-same-length-2 (calls t) (items-at t) items.Post Inv-loop μ-loop
-same-length-2 t c = (c .before .loop .inv .long-list)
+same-length-2 t c = (c .before .loop .inv .kept .long-list)
 
 same-length-3 : (t : ℕ) → lts.Need-same-length-3 (calls t) (items-at t) items.Post Inv-loop μ-loop
-same-length-3 t c = (c .before .loop .inv .long-work)
+same-length-3 t c = (c .before .loop .inv .kept .long-work)
+
+returns-2 : (t : ℕ) → lts.Need-returns-2 (calls t) (items-at t) items.Post Inv-loop μ-loop
+unfolding listed
+returns-2 t c = walks λ h a i. leads-read _ (reads (c .before .before .before .before .before .before .before .before .before .before .before .number .ensures)) (c .before .before .before .before .before .before .before .before .before .count .given .1) (leads-on (c .before .before .before .wrote .ensures) (c .before .before .moved .ensures) (leads-list _ _ a (going-done nodes-listed (c .before .loop .inv) (c .loop-test .left)) h (on i (c .before .before .before .before .before .before .then-number .ensures) (c .before .before .before .wrote .ensures) (c .before .before .moved .ensures))))
 
 pub met : {M : Type 1} (t : ℕ) → lts.Closed (calls t) (items-at t) items.Post M
-met t = lts.spec (calls t) (items-at t) items.Post Inv-loop μ-loop (λ c κs. search needs) (λ c. search needs) (λ c. search needs) (λ c. search needs) (λ c κs. search needs) (λ c κs. search needs) (λ c κs. search needs) (loop-holds t) (λ c κs. omega (arith, (c .before .before .before .before .before .before .before .before .before .before .before .before .before .before .before .before .before .before .before .pre))) (λ c. search needs) (λ c. search needs) (loop-again t) (same-length t) (same-length-2 t) (same-length-3 t) (λ c. search needs)
+met t = lts.spec (calls t) (items-at t) items.Post Inv-loop μ-loop (λ c κs. search needs) (λ c. search needs) (λ c. search needs) (returns t) (λ c κs. search needs) (λ c κs. search needs) (λ c κs. search needs) (loop-holds t) (λ c κs. omega (arith, (c .before .before .before .before .before .before .before .before .before .before .before .before .before .before .before .before .before .before .before .pre))) (λ c. search needs) (λ c. search needs) (loop-again t) (same-length t) (same-length-2 t) (same-length-3 t) (returns-2 t)

@@ -3,8 +3,17 @@
 use Prim.Native.Nat.{ℕ}
 use borrow.Author.Needs.{needs}
 use native.Mathlib.Omega.{arith}
-use mathlib.Core.Path.{_∙_}
+use mathlib.Core.Path.{refl, _∙_}
 use Prim.Native.Nat.{ℕ}
+use Rattle.penne.specs.Read.{toNodes, restOf}
+use Rattle.penne.specs.Tree.{reference}
+use Rattle.tree.proofs.Chain.{reads}
+use Rattle.tree.proofs.Nodes.{ref-node}
+use Rattle.walk.proofs.Leading.{walks, leads-places, leads-unplaces, leads-call, leads-end, node-deep, node-unread, node-in}
+use Rattle.walk.proofs.Copying.{spells-join, spelled-places}
+use Rattle.expressions.proofs.Onward.{on, leads-on}
+use Rattle.expressions.proofs.Arms.{reference-is}
+use Rattle.expressions.proofs.Names.{below-spelled}
 use Rattle.expressions.proofs.+array_literal+binary+bit_cast+deref+element+expression+expression_of+expressions+function_call+item+items+length_of_array+parenthesized+reference+step+steps+structural+type_cast+unary.Lts-reference as lts
 use Rattle.expressions.proofs.+array_literal+binary+bit_cast+deref+element+expression+expression_of+expressions+function_call+item+items+length_of_array+parenthesized+reference+step+steps+structural+type_cast+unary.Proof.Common.{reference-at, steps-below}
 use Rattle.expressions.proofs.base.Reads as base-reads
@@ -18,6 +27,16 @@ use Rattle.walk.proofs.state.Walk.wrote.Reads as wrote-reads
 
 abbrev calls : ℕ → lts.Claims
 calls t = (below-reads.Asked, below-reads.Learnt, two-places-reads.Asked, two-places-reads.Learnt, then-numbers-reads.Asked, then-numbers-reads.Learnt, wrote-reads.Asked, wrote-reads.Learnt, moved-reads.Asked, moved-reads.Learnt, base-reads.Asked, base-reads.Learnt, steps-below t, steps.Post)
+
+returns : (t : ℕ) → lts.Need-returns (calls t) (reference-at t) reference.Post
+returns t c = walks λ h a i. node-unread ref-node (reads (c .before .before .below .ensures)) _ (c .enum-told .given .1)
+
+returns-2 : (t : ℕ) → lts.Need-returns-2 (calls t) (reference-at t) reference.Post
+returns-2 t c = walks λ h a i. node-deep ref-node _ (c .if1 .taken)
+
+returns-3 : (t : ℕ) → lts.Need-returns-3 (calls t) (reference-at t) reference.Post
+unfolding restOf
+returns-3 t c = walks λ h a i. node-in ref-node (reads (c .before .before .before .before .before .before .before .below .ensures)) _ (c .before .before .before .if1 .left) (c .before .before .before .before .before .depth .given .1) (leads-unplaces _ (c .before .before .two-places .ensures) (c .enum-told2 .given .1))
 
 sub-steps : (t : ℕ) → lts.Need-sub-steps (calls t) (reference-at t) reference.Post
 sub-steps t c = omega (arith, (c .before .before .before .before .before .before .before .before .before .before .before .before .before .before .before .before .before .before .before .before .before .before .before .if1 .left))
@@ -34,5 +53,9 @@ same-length-2 t c = (c .before .before .before .before .before .before .steps .k
 same-length-3 : (t : ℕ) → lts.Need-same-length-3 (calls t) (reference-at t) reference.Post
 same-length-3 t c = (c .before .before .before .before .before .before .steps .kept .1 .1 .1 .0) ∙ (c .before .before .before .before .before .before .before .before .before .before .before .before .before .before .before .before .base .kept .1 .1 .1 .0)
 
+returns-4 : (t : ℕ) → lts.Need-returns-4 (calls t) (reference-at t) reference.Post
+unfolding restOf
+returns-4 t c = walks λ h a i. node-in ref-node (reads (c .before .before .before .before .before .before .before .before .before .before .before .before .before .before .before .before .before .before .before .before .before .before .before .before .before .before .before .before .before .before .before .before .before .before .below .ensures)) _ (c .before .before .before .before .before .before .before .before .before .before .before .before .before .before .before .before .before .before .before .before .before .before .before .before .before .before .before .before .before .before .if1 .left) (c .before .before .before .before .before .before .before .before .before .before .before .before .before .before .before .before .before .before .before .before .before .before .before .before .before .before .before .before .before .before .before .before .depth .given .1) (leads-places _ (c .before .before .before .before .before .before .before .before .before .before .before .before .before .before .before .before .before .before .before .before .before .before .before .before .before .before .before .before .before .two-places .ensures) (c .before .before .before .before .before .before .before .before .before .before .before .before .before .before .before .before .before .before .before .before .before .before .before .before .before .before .before .places .given .1) λ p q g. leads-on (c .before .before .before .before .before .before .before .before .before .before .before .before .before .before .before .before .before .before .wrote .ensures) (c .before .before .before .before .before .before .before .before .before .before .before .before .before .before .before .before .before .moved .ensures) (leads-call _ (c .before .before .before .before .before .before .before .before .before .before .before .before .before .before .before .before .base .ensures) h (on i (c .before .before .before .before .before .before .before .before .before .before .before .before .before .before .before .before .before .before .before .before .before .before .before .before .then-numbers .ensures) (c .before .before .before .before .before .before .before .before .before .before .before .before .before .before .before .before .before .before .wrote .ensures) (c .before .before .before .before .before .before .before .before .before .before .before .before .before .before .before .before .before .moved .ensures)) λ b _ i₁. leads-call _ (c .before .before .before .before .before .before .steps .ensures) h i₁ λ ts _ i₂. leads-end (reference _ p q b (toNodes ts)) refl i₂ λ _. reference-is a _ p q b ts (spells-join (below-spelled 256 (c .before .before .before .before .before .before .before .before .before .before .before .before .before .before .before .before .before .before .before .before .before .before .before .before .before .before .before .before .before .before .before .before .before .before .below .ensures) (c .before .before .before .before .before .before .before .before .before .before .before .before .before .before .before .before .before .before .before .before .before .before .before .before .before .before .before .before .before .before .before .before .depth .given .1)) (spelled-places .is _ _ _ _ g))))
+
 pub met : {M : Type 1} (t : ℕ) → lts.Closed (calls t) (reference-at t) reference.Post M
-met t = lts.spec (calls t) (reference-at t) reference.Post (λ c κs. search needs) (λ c. search needs) (λ c. search needs) (λ c. search needs) (λ c. search needs) (λ c κs. search needs) (λ c. search needs) (λ c. search needs) (λ c. search needs) (λ c κs. search needs) (λ c κs. search needs) (λ c κs. search needs) (λ c κs. search needs) (sub-steps t) (steps-requires t) (same-length t) (same-length-2 t) (same-length-3 t) (λ c. search needs)
+met t = lts.spec (calls t) (reference-at t) reference.Post (λ c κs. search needs) (λ c. search needs) (λ c. search needs) (returns t) (returns-2 t) (λ c κs. search needs) (λ c. search needs) (λ c. search needs) (returns-3 t) (λ c κs. search needs) (λ c κs. search needs) (λ c κs. search needs) (λ c κs. search needs) (sub-steps t) (steps-requires t) (same-length t) (same-length-2 t) (same-length-3 t) (returns-4 t)

@@ -4,6 +4,14 @@ use Prim.Native.Nat.{ℕ}
 use borrow.Author.Needs.{needs}
 use native.Mathlib.Omega.{arith}
 use Prim.Native.Nat.{ℕ}
+use Rattle.penne.specs.Read.{read}
+use Rattle.penne.specs.Tree.{step}
+use Rattle.tree.proofs.Chain.{reads}
+use Rattle.tree.proofs.Nodes.{step-node}
+use Rattle.walk.proofs.Leading.{walks, node-deep, node-unread, node-in}
+use Rattle.walk.proofs.Writing.{moved}
+use Rattle.expressions.proofs.Onward.{leads-moved}
+use Rattle.expressions.proofs.ByKind.{walk-element, walk-member}
 use Rattle.expressions.proofs.+array_literal+binary+bit_cast+deref+element+expression+expression_of+expressions+function_call+item+items+length_of_array+parenthesized+reference+step+steps+structural+type_cast+unary.Lts-step as lts
 use Rattle.expressions.proofs.+array_literal+binary+bit_cast+deref+element+expression+expression_of+expressions+function_call+item+items+length_of_array+parenthesized+reference+step+steps+structural+type_cast+unary.Proof.Common.{element-below, step-at}
 use Rattle.tree.proofs.number.below.Reads as below-reads
@@ -15,6 +23,12 @@ use Rattle.expressions.proofs.step.Reads as step
 abbrev calls : ℕ → lts.Claims
 calls t = (below-reads.Asked, below-reads.Learnt, moved-reads.Asked, moved-reads.Learnt, element-below t, element.Post, member-reads.Asked, member-reads.Learnt)
 
+returns : (t : ℕ) → lts.Need-returns (calls t) (step-at t) step.Post
+returns t c = walks λ h a i. node-unread step-node (reads (c .before .before .below .ensures)) _ (c .enum-told .given .1)
+
+returns-2 : (t : ℕ) → lts.Need-returns-2 (calls t) (step-at t) step.Post
+returns-2 t c = walks λ h a i. node-deep step-node _ (c .if1 .taken)
+
 same-length : (t : ℕ) → lts.Need-same-length (calls t) (step-at t) step.Post
 same-length t c = (c .before .before .before .before .before .before .element .kept .1 .0)
 
@@ -24,8 +38,14 @@ same-length-2 t c = (c .before .before .before .before .before .before .element 
 same-length-3 : (t : ℕ) → lts.Need-same-length-3 (calls t) (step-at t) step.Post
 same-length-3 t c = (c .before .before .before .before .before .before .element .kept .1 .1 .1 .0)
 
+returns-3 : (t : ℕ) → lts.Need-returns-3 (calls t) (step-at t) step.Post
+returns-3 t c = walks λ h a i. node-in step-node (reads (c .before .before .before .before .before .before .before .before .before .before .before .before .before .before .before .before .below .ensures)) _ (c .before .before .before .before .before .before .before .before .before .before .before .before .if1 .left) (c .before .before .before .before .before .before .before .before .before .before .before .before .before .before .kind .given .1) (leads-moved (c .before .before .before .before .before .before .before .moved .ensures) (walk-element _ _ (c .before .before .before .before .before .before .before .before .before .before .before .if2 .taken) (c .before .before .before .before .before .before .element .ensures) .does h a (moved i (c .before .before .before .before .before .before .before .moved .ensures))))
+
 same-length-4 : (t : ℕ) → lts.Need-same-length-4 (calls t) (step-at t) step.Post
 same-length-4 t c = (c .before .before .member .kept .1 .0)
 
+returns-4 : (t : ℕ) → lts.Need-returns-4 (calls t) (step-at t) step.Post
+returns-4 t c = walks λ h a i. node-in step-node (reads (c .before .before .before .before .before .before .before .before .before .before .below .ensures)) _ (c .before .before .before .before .before .before .if1 .left) (c .before .before .before .before .before .before .before .before .kind .given .1) (leads-moved (c .before .before .before .moved2 .ensures) (walk-member _ (read 0) _ (c .before .before .before .before .before .if2 .left) ((c .before .before .member .ensures) _ _) .does h a (moved i (c .before .before .before .moved2 .ensures))))
+
 pub met : {M : Type 1} (t : ℕ) → lts.Closed (calls t) (step-at t) step.Post M
-met t = lts.spec (calls t) (step-at t) step.Post (λ c κs. search needs) (λ c. search needs) (λ c. search needs) (λ c. search needs) (λ c. search needs) (λ c κs. search needs) (λ c. search needs) (λ c κs. omega (arith, (c .before .before .before .before .before .before .before .before .before .before .before .before .before .before .pre))) (same-length t) (same-length-2 t) (same-length-3 t) (λ c. search needs) (λ c κs. search needs) (λ c κs. search needs) (same-length-4 t) (λ c. search needs)
+met t = lts.spec (calls t) (step-at t) step.Post (λ c κs. search needs) (λ c. search needs) (λ c. search needs) (returns t) (returns-2 t) (λ c κs. search needs) (λ c. search needs) (λ c κs. omega (arith, (c .before .before .before .before .before .before .before .before .before .before .before .before .before .before .pre))) (same-length t) (same-length-2 t) (same-length-3 t) (returns-3 t) (λ c κs. search needs) (λ c κs. search needs) (same-length-4 t) (returns-4 t)

@@ -3,8 +3,16 @@
 use Prim.Native.Nat.{ℕ}
 use borrow.Author.Needs.{needs}
 use native.Mathlib.Omega.{arith}
-use mathlib.Core.Path.{_∙_}
+use mathlib.Core.Path.{refl, _∙_}
 use Prim.Native.Nat.{ℕ}
+use mathlib.Core.Bool.{false}
+use Rattle.penne.specs.Read.{toNodes, readStructural}
+use Rattle.penne.specs.Tree.{structural}
+use Rattle.tree.proofs.Chain.{ends-place}
+use Rattle.walk.proofs.Leading.{walks, leads-skip, leads-unskip, leads-call, leads-end}
+use Rattle.walk.proofs.Copying.{spelled-place}
+use Rattle.expressions.proofs.Onward.{on, leads-on}
+use Rattle.expressions.proofs.Arms.{structural-is}
 use Rattle.expressions.proofs.+array_literal+binary+bit_cast+deref+element+expression+expression_of+expressions+function_call+item+items+length_of_array+parenthesized+reference+step+steps+structural+type_cast+unary.Lts-structural as lts
 use Rattle.expressions.proofs.+array_literal+binary+bit_cast+deref+element+expression+expression_of+expressions+function_call+item+items+length_of_array+parenthesized+reference+step+steps+structural+type_cast+unary.Proof.Common.{items-below, structural-at}
 use Rattle.expressions.proofs.items.Reads as items
@@ -18,14 +26,25 @@ use Rattle.walk.proofs.state.Walk.wrote.Reads as wrote-reads
 abbrev calls : ℕ → lts.Claims
 calls t = (number-reads.Asked, number-reads.Learnt, then-head-reads.Asked, then-head-reads.Learnt, wrote-reads.Asked, wrote-reads.Learnt, moved-reads.Asked, moved-reads.Learnt, items-below t, items.Post, maybe-type-reads.Asked, maybe-type-reads.Learnt)
 
+returns : (t : ℕ) → lts.Need-returns (calls t) (structural-at t) structural.Post
+unfolding readStructural
+returns t c = walks λ h a i. leads-unskip _ (ends-place (c .before .before .number .ensures)) (c .enum-told .given .1)
+
 same-length : (t : ℕ) → lts.Need-same-length (calls t) (structural-at t) structural.Post
+unfolding readStructural
 same-length t c = (c .before .before .before .before .maybe-type .kept .1 .0) ∙ (c .before .before .before .before .before .before .before .before .before .before .before .before .before .items .kept .1 .0) ∙ (c .before .before .before .before .before .before .before .before .before .before .before .before .before .before .before .before .before .before .before .before .before .then-head .kept .0)
 
 same-length-2 : (t : ℕ) → lts.Need-same-length-2 (calls t) (structural-at t) structural.Post
+unfolding readStructural
 same-length-2 t c = (c .before .before .before .before .before .before .before .before .before .before .before .before .before .items .kept .1 .1 .0)
 
 same-length-3 : (t : ℕ) → lts.Need-same-length-3 (calls t) (structural-at t) structural.Post
+unfolding readStructural
 same-length-3 t c = (c .before .before .before .before .maybe-type .kept .1 .1 .0) ∙ (c .before .before .before .before .before .before .before .before .before .before .before .before .before .items .kept .1 .1 .1 .0)
 
+returns-2 : (t : ℕ) → lts.Need-returns-2 (calls t) (structural-at t) structural.Post
+unfolding readStructural
+returns-2 t c = walks λ h a i. leads-skip _ (ends-place (c .before .before .before .before .before .before .before .before .before .before .before .before .before .before .before .before .before .before .before .before .before .before .before .before .before .before .number .ensures)) (c .before .before .before .before .before .before .before .before .before .before .before .before .before .before .before .before .before .before .before .before .before .before .before .before .place .given .1) λ x1 g1. leads-on (c .before .before .before .before .before .before .before .before .before .before .before .before .before .before .before .wrote .ensures) (c .before .before .before .before .before .before .before .before .before .before .before .before .before .before .moved .ensures) (leads-call _ (c .before .before .before .before .before .before .before .before .before .before .before .before .before .items .ensures) h (on i (c .before .before .before .before .before .before .before .before .before .before .before .before .before .before .before .before .before .before .before .before .before .then-head .ensures) (c .before .before .before .before .before .before .before .before .before .before .before .before .before .before .before .wrote .ensures) (c .before .before .before .before .before .before .before .before .before .before .before .before .before .before .moved .ensures)) λ ms _ i₁. leads-call _ ((c .before .before .before .before .maybe-type .ensures) false _) h i₁ λ y _ i₂. leads-end (structural x1 (toNodes ms) y) refl i₂ λ _. structural-is a x1 ms y (spelled-place .is _ _ _ _ g1))
+
 pub met : {M : Type 1} (t : ℕ) → lts.Closed (calls t) (structural-at t) structural.Post M
-met t = lts.spec (calls t) (structural-at t) structural.Post (λ c κs. search needs) (λ c. search needs) (λ c. search needs) (λ c. search needs) (λ c κs. search needs) (λ c κs. search needs) (λ c κs. search needs) (λ c κs. omega (arith, (c .before .before .before .before .before .before .before .before .before .before .before .before .before .before .before .before .before .pre))) (λ c κs. search needs) (same-length t) (same-length-2 t) (same-length-3 t) (λ c. search needs)
+met t = lts.spec (calls t) (structural-at t) structural.Post (λ c κs. search needs) (λ c. search needs) (λ c. search needs) (returns t) (λ c κs. search needs) (λ c κs. search needs) (λ c κs. search needs) (λ c κs. omega (arith, (c .before .before .before .before .before .before .before .before .before .before .before .before .before .before .before .before .before .pre))) (λ c κs. search needs) (same-length t) (same-length-2 t) (same-length-3 t) (returns-2 t)

@@ -3,8 +3,17 @@
 use Prim.Native.Nat.{ℕ}
 use borrow.Author.Needs.{needs}
 use native.Mathlib.Omega.{arith}
-use mathlib.Core.Path.{_∙_}
+use mathlib.Core.Path.{refl, _∙_}
 use Prim.Native.Nat.{ℕ}
+use mathlib.Core.Bool.{false}
+use Rattle.penne.specs.Read.{readTypeCast}
+use Rattle.penne.specs.Tree.{typeCast}
+use Rattle.walk.proofs.Leading.{walks, leads-places, leads-unplaces, leads-call, leads-tried, leads-end}
+use Rattle.walk.proofs.Writing.{here-wrote}
+use Rattle.walk.proofs.Copying.{spelled-places}
+use Rattle.types.proofs.Trying.{leads-at, fine-is, bad-is}
+use Rattle.expressions.proofs.Onward.{on, leads-on}
+use Rattle.expressions.proofs.Casts.{type-rewound, type-cast-is, type-cast-bad}
 use Rattle.expressions.proofs.+array_literal+binary+bit_cast+deref+element+expression+expression_of+expressions+function_call+item+items+length_of_array+parenthesized+reference+step+steps+structural+type_cast+unary.Lts-type_cast as lts
 use Rattle.expressions.proofs.+array_literal+binary+bit_cast+deref+element+expression+expression_of+expressions+function_call+item+items+length_of_array+parenthesized+reference+step+steps+structural+type_cast+unary.Proof.Common.{expression-below, type-cast-at}
 use Rattle.expressions.proofs.expression.Reads as expression
@@ -19,20 +28,37 @@ use Rattle.walk.proofs.state.Walk.wrote.Reads as wrote-reads
 abbrev calls : ℕ → lts.Claims
 calls t = (two-places-reads.Asked, two-places-reads.Learnt, then-head-reads.Asked, then-head-reads.Learnt, wrote-reads.Asked, wrote-reads.Learnt, moved-reads.Asked, moved-reads.Learnt, value-type-reads.Asked, value-type-reads.Learnt, expression-below t, expression.Post, past-operand-reads.Asked, past-operand-reads.Learnt)
 
+returns : (t : ℕ) → lts.Need-returns (calls t) (type-cast-at t) type-cast.Post
+unfolding readTypeCast
+returns t c = walks λ h a i. leads-unplaces _ (c .before .before .two-places .ensures) (c .enum-told .given .1)
+
 same-length : (t : ℕ) → lts.Need-same-length (calls t) (type-cast-at t) type-cast.Post
+unfolding readTypeCast
 same-length t c = (c .before .before .before .before .before .before .expression .kept .1 .0) ∙ (c .before .before .before .before .before .before .before .before .before .before .before .before .before .before .before .before .before .value-type .kept .1 .0) ∙ (c .before .before .before .before .before .before .before .before .before .before .before .before .before .before .before .before .before .before .before .before .before .before .before .before .then-head .kept .0)
 
 same-length-2 : (t : ℕ) → lts.Need-same-length-2 (calls t) (type-cast-at t) type-cast.Post
+unfolding readTypeCast
 same-length-2 t c = (c .before .before .before .before .before .before .expression .kept .1 .1 .0)
 
 same-length-3 : (t : ℕ) → lts.Need-same-length-3 (calls t) (type-cast-at t) type-cast.Post
+unfolding readTypeCast
 same-length-3 t c = (c .before .before .before .before .before .before .expression .kept .1 .1 .1 .0) ∙ (c .before .before .before .before .before .before .before .before .before .before .before .before .before .before .before .before .before .value-type .kept .1 .1 .0)
 
+returns-2 : (t : ℕ) → lts.Need-returns-2 (calls t) (type-cast-at t) type-cast.Post
+unfolding readTypeCast
+returns-2 t c = walks λ h a i. leads-places _ (c .before .before .before .before .before .before .before .before .before .before .before .before .before .before .before .before .before .before .before .before .before .before .before .before .before .before .before .before .before .two-places .ensures) (c .before .before .before .before .before .before .before .before .before .before .before .before .before .before .before .before .before .before .before .before .before .before .before .before .before .before .before .places .given .1) λ p1 q1 g1. leads-on (c .before .before .before .before .before .before .before .before .before .before .before .before .before .before .before .before .before .before .before .wrote .ensures) (c .before .before .before .before .before .before .before .before .before .before .before .before .before .before .before .before .before .before .moved .ensures) (leads-tried _ (fine-is (c .before .before .before .before .before .before .before .before .before .before .before .typed .given .1) ((c .before .before .before .before .before .before .before .before .before .before .before .before .before .before .before .before .before .value-type .ensures) false _)) h (on i (c .before .before .before .before .before .before .before .before .before .before .before .before .before .before .before .before .before .before .before .before .before .before .before .before .then-head .ensures) (c .before .before .before .before .before .before .before .before .before .before .before .before .before .before .before .before .before .before .before .wrote .ensures) (c .before .before .before .before .before .before .before .before .before .before .before .before .before .before .before .before .before .before .moved .ensures)) λ x _ i₁ told. leads-call _ (c .before .before .before .before .before .before .expression .ensures) h i₁ λ y _ i₂. leads-end (typeCast p1 q1 x y) refl i₂ (type-cast-is _ a p1 q1 x y (spelled-places .is _ _ _ _ g1) told))
+
 same-length-4 : (t : ℕ) → lts.Need-same-length-4 (calls t) (type-cast-at t) type-cast.Post
+unfolding readTypeCast
 same-length-4 t c = (c .before .before .past-operand .kept .1 .0) ∙ (c .before .before .before .before .before .before .before .before .before .before .before .before .value-type .kept .1 .0) ∙ (c .before .before .before .before .before .before .before .before .before .before .before .before .before .before .before .before .before .before .before .then-head .kept .0)
 
 same-length-5 : (t : ℕ) → lts.Need-same-length-5 (calls t) (type-cast-at t) type-cast.Post
+unfolding readTypeCast
 same-length-5 t c = (c .before .before .before .before .before .before .before .before .before .before .before .before .value-type .kept .1 .1 .0)
 
+returns-3 : (t : ℕ) → lts.Need-returns-3 (calls t) (type-cast-at t) type-cast.Post
+unfolding readTypeCast
+returns-3 t c = walks λ h a i. leads-places _ (c .before .before .before .before .before .before .before .before .before .before .before .before .before .before .before .before .before .before .before .before .before .before .before .before .two-places .ensures) (c .before .before .before .before .before .before .before .before .before .before .before .before .before .before .before .before .before .before .before .before .before .before .places .given .1) λ p1 q1 g1. leads-on (c .before .before .before .before .before .before .before .before .before .before .before .before .before .before .wrote .ensures) (c .before .before .before .before .before .before .before .before .before .before .before .before .before .moved .ensures) (leads-tried _ (bad-is (c .before .before .before .before .before .before .typed2 .given .1) ((c .before .before .before .before .before .before .before .before .before .before .before .before .value-type .ensures) false _)) h (on i (c .before .before .before .before .before .before .before .before .before .before .before .before .before .before .before .before .before .before .before .then-head .ensures) (c .before .before .before .before .before .before .before .before .before .before .before .before .before .before .wrote .ensures) (c .before .before .before .before .before .before .before .before .before .before .before .before .before .moved .ensures)) λ x _ i₁ told. leads-at (here-wrote (c .before .before .before .wrote2 .ensures)) (leads-call _ ((c .before .before .past-operand .ensures) _ _) h (type-rewound _ x i i₁ (c .before .before .before .wrote2 .ensures)) λ y _ i₂. leads-end (typeCast p1 q1 x y) refl i₂ (type-cast-bad _ a p1 q1 x y told)))
+
 pub met : {M : Type 1} (t : ℕ) → lts.Closed (calls t) (type-cast-at t) type-cast.Post M
-met t = lts.spec (calls t) (type-cast-at t) type-cast.Post (λ c κs. search needs) (λ c. search needs) (λ c. search needs) (λ c. search needs) (λ c κs. search needs) (λ c κs. search needs) (λ c κs. search needs) (λ c κs. search needs) (λ c. search needs) (λ c κs. omega (arith, (c .before .before .before .before .before .before .before .before .before .before .before .before .before .before .before .before .before .before .before .before .before .before .before .before .before .before .before .pre))) (λ c. search needs) (λ c κs. search needs) (λ c κs. search needs) (same-length t) (same-length-2 t) (same-length-3 t) (λ c. search needs) (same-length-4 t) (same-length-5 t) (λ c. search needs)
+met t = lts.spec (calls t) (type-cast-at t) type-cast.Post (λ c κs. search needs) (λ c. search needs) (λ c. search needs) (returns t) (λ c κs. search needs) (λ c κs. search needs) (λ c κs. search needs) (λ c κs. search needs) (λ c. search needs) (λ c κs. omega (arith, (c .before .before .before .before .before .before .before .before .before .before .before .before .before .before .before .before .before .before .before .before .before .before .before .before .before .before .before .pre))) (λ c. search needs) (λ c κs. search needs) (λ c κs. search needs) (same-length t) (same-length-2 t) (same-length-3 t) (returns-2 t) (same-length-4 t) (same-length-5 t) (returns-3 t)

@@ -3,8 +3,14 @@
 use Prim.Native.Nat.{ℕ}
 use borrow.Author.Needs.{needs}
 use native.Mathlib.Omega.{arith}
-use mathlib.Core.Path.{_∙_}
+use mathlib.Core.Path.{refl, _∙_}
 use Prim.Native.Nat.{ℕ}
+use Rattle.penne.specs.Read.{readUnary}
+use Rattle.penne.specs.Tree.{unary}
+use Rattle.walk.proofs.Leading.{walks, leads-operator, leads-unoperator, leads-call, leads-end}
+use Rattle.walk.proofs.Copying.{spelled-operator}
+use Rattle.expressions.proofs.Onward.{on, leads-on}
+use Rattle.expressions.proofs.Arms.{unary-is}
 use Rattle.expressions.proofs.+array_literal+binary+bit_cast+deref+element+expression+expression_of+expressions+function_call+item+items+length_of_array+parenthesized+reference+step+steps+structural+type_cast+unary.Lts-unary as lts
 use Rattle.expressions.proofs.+array_literal+binary+bit_cast+deref+element+expression+expression_of+expressions+function_call+item+items+length_of_array+parenthesized+reference+step+steps+structural+type_cast+unary.Proof.Common.{expression-below, unary-at}
 use Rattle.expressions.proofs.expression.Reads as expression
@@ -17,14 +23,25 @@ use Rattle.walk.proofs.state.Walk.wrote.Reads as wrote-reads
 abbrev calls : ℕ → lts.Claims
 calls t = (operator-reads.Asked, operator-reads.Learnt, then-head-reads.Asked, then-head-reads.Learnt, wrote-reads.Asked, wrote-reads.Learnt, moved-reads.Asked, moved-reads.Learnt, expression-below t, expression.Post)
 
+returns : (t : ℕ) → lts.Need-returns (calls t) (unary-at t) unary.Post
+unfolding readUnary
+returns t c = walks λ h a i. leads-unoperator _ (c .before .before .operator .ensures) (c .enum-told .given .1)
+
 same-length : (t : ℕ) → lts.Need-same-length (calls t) (unary-at t) unary.Post
+unfolding readUnary
 same-length t c = (c .before .before .before .before .before .before .expression .kept .1 .0) ∙ (c .before .before .before .before .before .before .before .before .before .before .before .before .before .before .then-head .kept .0)
 
 same-length-2 : (t : ℕ) → lts.Need-same-length-2 (calls t) (unary-at t) unary.Post
+unfolding readUnary
 same-length-2 t c = (c .before .before .before .before .before .before .expression .kept .1 .1 .0)
 
 same-length-3 : (t : ℕ) → lts.Need-same-length-3 (calls t) (unary-at t) unary.Post
+unfolding readUnary
 same-length-3 t c = (c .before .before .before .before .before .before .expression .kept .1 .1 .1 .0)
 
+returns-2 : (t : ℕ) → lts.Need-returns-2 (calls t) (unary-at t) unary.Post
+unfolding readUnary
+returns-2 t c = walks λ h a i. leads-operator _ (c .before .before .before .before .before .before .before .before .before .before .before .before .before .before .before .before .before .before .before .operator .ensures) (c .before .before .before .before .before .before .before .before .before .before .before .before .before .before .before .before .before .op .given .1) λ o1 p1 q1 g1. leads-on (c .before .before .before .before .before .before .before .before .wrote .ensures) (c .before .before .before .before .before .before .before .moved .ensures) (leads-call _ (c .before .before .before .before .before .before .expression .ensures) h (on i (c .before .before .before .before .before .before .before .before .before .before .before .before .before .before .then-head .ensures) (c .before .before .before .before .before .before .before .before .wrote .ensures) (c .before .before .before .before .before .before .before .moved .ensures)) λ x _ i₁. leads-end (unary o1 p1 q1 x) refl i₁ λ _. unary-is a o1 p1 q1 x (spelled-operator .is _ _ _ _ g1))
+
 pub met : {M : Type 1} (t : ℕ) → lts.Closed (calls t) (unary-at t) unary.Post M
-met t = lts.spec (calls t) (unary-at t) unary.Post (λ c κs. search needs) (λ c. search needs) (λ c. search needs) (λ c. search needs) (λ c κs. search needs) (λ c κs. search needs) (λ c κs. search needs) (λ c κs. omega (arith, (c .before .before .before .before .before .before .before .before .before .before .before .before .before .before .before .before .before .pre))) (same-length t) (same-length-2 t) (same-length-3 t) (λ c. search needs)
+met t = lts.spec (calls t) (unary-at t) unary.Post (λ c κs. search needs) (λ c. search needs) (λ c. search needs) (returns t) (λ c κs. search needs) (λ c κs. search needs) (λ c κs. search needs) (λ c κs. omega (arith, (c .before .before .before .before .before .before .before .before .before .before .before .before .before .before .before .before .before .pre))) (same-length t) (same-length-2 t) (same-length-3 t) (returns-2 t)

@@ -5,6 +5,7 @@ use borrow.Author.Needs.{needs}
 use native.Mathlib.Omega.{arith}
 use mathlib.Core.Path.{_∙_}
 use Prim.Native.Nat.{ℕ}
+use Rattle.statements.proofs.Nesting.{block-not, blocked}
 use Rattle.statements.proofs.+block+branches+else_branch+statement_of+statements+stmt.Lts-block as lts
 use Rattle.statements.proofs.+block+branches+else_branch+statement_of+statements+stmt.Proof.Common.{block-at, statements-below}
 use Rattle.statements.proofs.block.Reads as block
@@ -19,6 +20,9 @@ use Rattle.walk.proofs.state.Walk.wrote.Reads as wrote-reads
 abbrev calls : ℕ → lts.Claims
 calls t = (number-reads.Asked, number-reads.Learnt, then-head-reads.Asked, then-head-reads.Learnt, wrote-reads.Asked, wrote-reads.Learnt, moved-reads.Asked, moved-reads.Learnt, opened-reads.Asked, opened-reads.Learnt, statements-below t, statements.Post, closed-reads.Asked, closed-reads.Learnt)
 
+returns : (t : ℕ) → lts.Need-returns (calls t) (block-at t) block.Post
+returns t c = block-not (c .before .before .number .ensures) _ (c .enum-told .given .1)
+
 same-length : (t : ℕ) → lts.Need-same-length (calls t) (block-at t) block.Post
 same-length t c = (c .before .before .before .before .before .before .before .before .before .before .statements .kept .1 .0) ∙ (c .before .before .before .before .before .before .before .before .before .before .before .before .before .before .before .before .before .before .before .then-head .kept .0)
 
@@ -28,5 +32,8 @@ same-length-2 t c = (c .before .before .before .before .before .before .before .
 same-length-3 : (t : ℕ) → lts.Need-same-length-3 (calls t) (block-at t) block.Post
 same-length-3 t c = (c .before .before .closed .kept .0) ∙ (c .before .before .before .before .before .before .before .before .before .before .statements .kept .1 .1 .1 .0)
 
+returns-2 : (t : ℕ) → lts.Need-returns-2 (calls t) (block-at t) block.Post
+returns-2 t c = blocked (c .before .before .before .before .before .before .before .before .before .before .before .before .before .before .before .before .before .before .before .before .before .before .before .before .number .ensures) _ (c .before .before .before .before .before .before .before .before .before .before .before .before .before .before .before .before .before .before .before .before .before .before .place .given .1) (c .before .before .before .before .before .before .before .before .before .before .before .before .before .before .before .before .before .before .before .then-head .ensures) (c .before .before .before .before .before .before .before .before .before .before .before .before .before .wrote .ensures) (c .before .before .before .before .before .before .before .before .before .before .before .before .moved .ensures) (c .before .before .before .before .before .before .before .before .before .before .before .opened .ensures) (c .before .before .before .before .before .before .before .before .before .before .statements .ensures) (c .before .before .closed .ensures)
+
 pub met : {M : Type 1} (t : ℕ) → lts.Closed (calls t) (block-at t) block.Post M
-met t = lts.spec (calls t) (block-at t) block.Post (λ c κs. search needs) (λ c. search needs) (λ c. search needs) (λ c. search needs) (λ c κs. search needs) (λ c κs. search needs) (λ c κs. search needs) (λ c κs. search needs) (λ c κs. omega (arith, (c .before .before .before .before .before .before .before .before .before .before .before .before .before .before .before .before .before .before .pre))) (λ c κs. search needs) (same-length t) (same-length-2 t) (same-length-3 t) (λ c. search needs)
+met t = lts.spec (calls t) (block-at t) block.Post (λ c κs. search needs) (λ c. search needs) (λ c. search needs) (returns t) (λ c κs. search needs) (λ c κs. search needs) (λ c κs. search needs) (λ c κs. search needs) (λ c κs. omega (arith, (c .before .before .before .before .before .before .before .before .before .before .before .before .before .before .before .before .before .before .pre))) (λ c κs. search needs) (same-length t) (same-length-2 t) (same-length-3 t) (returns-2 t)

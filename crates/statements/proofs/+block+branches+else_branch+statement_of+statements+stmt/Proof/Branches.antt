@@ -5,6 +5,7 @@ use borrow.Author.Needs.{needs}
 use native.Mathlib.Omega.{arith}
 use mathlib.Core.Path.{_∙_}
 use Prim.Native.Nat.{ℕ}
+use Rattle.statements.proofs.Nesting.{if-not, if-unread, branched}
 use Rattle.statements.proofs.+block+branches+else_branch+statement_of+statements+stmt.Lts-branches as lts
 use Rattle.statements.proofs.+block+branches+else_branch+statement_of+statements+stmt.Proof.Common.{branches-at, else-branch-below, stmt-below}
 use Rattle.statements.proofs.branches.Reads as branches
@@ -20,6 +21,12 @@ use Rattle.walk.proofs.state.Walk.wrote.Reads as wrote-reads
 abbrev calls : ℕ → lts.Claims
 calls t = (number-reads.Asked, number-reads.Learnt, operator-reads.Asked, operator-reads.Learnt, then-head-reads.Asked, then-head-reads.Learnt, wrote-reads.Asked, wrote-reads.Learnt, moved-reads.Asked, moved-reads.Learnt, expression-reads.Asked, expression-reads.Learnt, stmt-below t, stmt.Post, else-branch-below t, else-branch.Post)
 
+returns : (t : ℕ) → lts.Need-returns (calls t) (branches-at t) branches.Post
+returns t c = if-not (c .before .before .number .ensures) _ (c .enum-told .given .1)
+
+returns-2 : (t : ℕ) → lts.Need-returns-2 (calls t) (branches-at t) branches.Post
+returns-2 t c = if-unread (c .before .before .before .before .before .before .number .ensures) _ (c .before .before .before .before .place .given .1) (c .before .before .operator .ensures) (c .enum-told2 .given .1)
+
 same-length : (t : ℕ) → lts.Need-same-length (calls t) (branches-at t) branches.Post
 same-length t c = (c .before .before .before .before .before .before .else-branch .kept .1 .0) ∙ (c .before .before .before .before .before .before .before .before .before .before .before .before .before .before .before .before .stmt .kept .1 .0) ∙ (c .before .before .before .before .before .before .before .before .before .before .before .before .before .before .before .before .before .before .before .before .before .before .before .before .before .before .expression2 .kept .1 .0) ∙ (c .before .before .before .before .before .before .before .before .before .before .before .before .before .before .before .before .before .before .before .before .before .before .before .before .before .before .before .before .before .before .before .before .before .before .before .before .expression .kept .1 .0) ∙ (c .before .before .before .before .before .before .before .before .before .before .before .before .before .before .before .before .before .before .before .before .before .before .before .before .before .before .before .before .before .before .before .before .before .before .before .before .before .before .before .before .before .before .before .before .then-head .kept .0)
 
@@ -29,5 +36,8 @@ same-length-2 t c = (c .before .before .before .before .before .before .else-bra
 same-length-3 : (t : ℕ) → lts.Need-same-length-3 (calls t) (branches-at t) branches.Post
 same-length-3 t c = (c .before .before .before .before .before .before .else-branch .kept .1 .1 .1 .0) ∙ (c .before .before .before .before .before .before .before .before .before .before .before .before .before .before .before .before .stmt .kept .1 .1 .1 .0) ∙ (c .before .before .before .before .before .before .before .before .before .before .before .before .before .before .before .before .before .before .before .before .before .before .before .before .before .before .expression2 .kept .1 .1 .1 .0) ∙ (c .before .before .before .before .before .before .before .before .before .before .before .before .before .before .before .before .before .before .before .before .before .before .before .before .before .before .before .before .before .before .before .before .before .before .before .before .expression .kept .1 .1 .1 .0)
 
+returns-3 : (t : ℕ) → lts.Need-returns-3 (calls t) (branches-at t) branches.Post
+returns-3 t c = branched (c .before .before .before .before .before .before .before .before .before .before .before .before .before .before .before .before .before .before .before .before .before .before .before .before .before .before .before .before .before .before .before .before .before .before .before .before .before .before .before .before .before .before .before .before .before .before .before .before .before .before .before .before .before .number .ensures) _ (c .before .before .before .before .before .before .before .before .before .before .before .before .before .before .before .before .before .before .before .before .before .before .before .before .before .before .before .before .before .before .before .before .before .before .before .before .before .before .before .before .before .before .before .before .before .before .before .before .before .before .before .place .given .1) (c .before .before .before .before .before .before .before .before .before .before .before .before .before .before .before .before .before .before .before .before .before .before .before .before .before .before .before .before .before .before .before .before .before .before .before .before .before .before .before .before .before .before .before .before .before .before .before .before .before .operator .ensures) (c .before .before .before .before .before .before .before .before .before .before .before .before .before .before .before .before .before .before .before .before .before .before .before .before .before .before .before .before .before .before .before .before .before .before .before .before .before .before .before .before .before .before .before .before .before .before .before .op .given .1) (c .before .before .before .before .before .before .before .before .before .before .before .before .before .before .before .before .before .before .before .before .before .before .before .before .before .before .before .before .before .before .before .before .before .before .before .before .before .before .before .before .before .before .before .before .then-head .ensures) (c .before .before .before .before .before .before .before .before .before .before .before .before .before .before .before .before .before .before .before .before .before .before .before .before .before .before .before .before .before .before .before .before .before .before .before .before .before .before .wrote .ensures) (c .before .before .before .before .before .before .before .before .before .before .before .before .before .before .before .before .before .before .before .before .before .before .before .before .before .before .before .before .before .before .before .before .before .before .before .before .before .moved .ensures) (c .before .before .before .before .before .before .before .before .before .before .before .before .before .before .before .before .before .before .before .before .before .before .before .before .before .before .before .before .before .before .before .before .before .before .before .before .expression .ensures) (c .before .before .before .before .before .before .before .before .before .before .before .before .before .before .before .before .before .before .before .before .before .before .before .before .before .before .expression2 .ensures) (c .before .before .before .before .before .before .before .before .before .before .before .before .before .before .before .before .stmt .ensures) (c .before .before .before .before .before .before .else-branch .ensures)
+
 pub met : {M : Type 1} (t : ℕ) → lts.Closed (calls t) (branches-at t) branches.Post M
-met t = lts.spec (calls t) (branches-at t) branches.Post (λ c κs. search needs) (λ c. search needs) (λ c. search needs) (λ c. search needs) (λ c κs. search needs) (λ c. search needs) (λ c. search needs) (λ c. search needs) (λ c κs. search needs) (λ c κs. search needs) (λ c κs. search needs) (λ c κs. search needs) (λ c κs. search needs) (λ c κs. omega (arith, (c .before .before .before .before .before .before .before .before .before .before .before .before .before .before .before .before .before .before .before .before .before .before .before .before .before .before .before .before .before .before .before .before .before .before .before .before .before .before .before .before .before .pre))) (λ c κs. omega (arith, (c .before .before .before .before .before .before .before .before .before .before .before .before .before .before .before .before .before .before .before .before .before .before .before .before .before .before .before .before .before .before .before .before .before .before .before .before .before .before .before .before .before .before .before .before .before .before .before .before .before .before .before .pre))) (same-length t) (same-length-2 t) (same-length-3 t) (λ c. search needs)
+met t = lts.spec (calls t) (branches-at t) branches.Post (λ c κs. search needs) (λ c. search needs) (λ c. search needs) (returns t) (λ c κs. search needs) (λ c. search needs) (λ c. search needs) (returns-2 t) (λ c κs. search needs) (λ c κs. search needs) (λ c κs. search needs) (λ c κs. search needs) (λ c κs. search needs) (λ c κs. omega (arith, (c .before .before .before .before .before .before .before .before .before .before .before .before .before .before .before .before .before .before .before .before .before .before .before .before .before .before .before .before .before .before .before .before .before .before .before .before .before .before .before .before .before .pre))) (λ c κs. omega (arith, (c .before .before .before .before .before .before .before .before .before .before .before .before .before .before .before .before .before .before .before .before .before .before .before .before .before .before .before .before .before .before .before .before .before .before .before .before .before .before .before .before .before .before .before .before .before .before .before .before .before .before .before .pre))) (same-length t) (same-length-2 t) (same-length-3 t) (returns-3 t)

@@ -5,6 +5,7 @@ use borrow.Author.Needs.{needs}
 use native.Mathlib.Omega.{arith}
 use mathlib.Core.Path.{_∙_}
 use Prim.Native.Nat.{ℕ}
+use Rattle.statements.proofs.Nesting.{else-not, no-else, else-unread, or-else}
 use Rattle.statements.proofs.+block+branches+else_branch+statement_of+statements+stmt.Lts-else_branch as lts
 use Rattle.statements.proofs.+block+branches+else_branch+statement_of+statements+stmt.Proof.Common.{else-branch-at, stmt-below}
 use Rattle.tree.proofs.number.below.Reads as below-reads
@@ -19,8 +20,17 @@ use Rattle.walk.proofs.state.Walk.wrote.Reads as wrote-reads
 abbrev calls : ℕ → lts.Claims
 calls t = (below-reads.Asked, below-reads.Learnt, then-number-reads.Asked, then-number-reads.Learnt, wrote-reads.Asked, wrote-reads.Learnt, moved-reads.Asked, moved-reads.Learnt, number-reads.Asked, number-reads.Learnt, then-head-reads.Asked, then-head-reads.Learnt, stmt-below t, stmt.Post)
 
+returns : (t : ℕ) → lts.Need-returns (calls t) (else-branch-at t) else-branch.Post
+returns t c = else-not (c .before .before .below .ensures) _ (c .enum-told .given .1)
+
 same-length : (t : ℕ) → lts.Need-same-length (calls t) (else-branch-at t) else-branch.Post
 same-length t c = (c .before .before .before .before .then-number .kept .0)
+
+returns-2 : (t : ℕ) → lts.Need-returns-2 (calls t) (else-branch-at t) else-branch.Post
+returns-2 t c = no-else (c .before .before .before .before .before .before .before .before .before .before .below .ensures) _ (c .before .before .before .before .before .before .before .before .tag .given .1) (c .before .before .before .before .before .before .if1 .taken) (c .before .before .before .before .then-number .ensures) (c .before .wrote .ensures) (c .moved .ensures)
+
+returns-3 : (t : ℕ) → lts.Need-returns-3 (calls t) (else-branch-at t) else-branch.Post
+returns-3 t c = else-unread (c .before .before .before .before .before .before .before .below .ensures) _ (c .before .before .before .before .before .tag .given .1) (c .before .before .before .if1 .left) (c .before .before .number .ensures) (c .enum-told2 .given .1)
 
 same-length-2 : (t : ℕ) → lts.Need-same-length-2 (calls t) (else-branch-at t) else-branch.Post
 same-length-2 t c = (c .before .before .before .before .before .before .stmt .kept .1 .0) ∙ (c .before .before .before .before .before .before .before .before .before .before .before .before .before .before .then-head .kept .0)
@@ -31,5 +41,8 @@ same-length-3 t c = (c .before .before .before .before .before .before .stmt .ke
 same-length-4 : (t : ℕ) → lts.Need-same-length-4 (calls t) (else-branch-at t) else-branch.Post
 same-length-4 t c = (c .before .before .before .before .before .before .stmt .kept .1 .1 .1 .0)
 
+returns-4 : (t : ℕ) → lts.Need-returns-4 (calls t) (else-branch-at t) else-branch.Post
+returns-4 t c = or-else (c .before .before .before .before .before .before .before .before .before .before .before .before .before .before .before .before .before .before .before .before .before .before .before .before .below .ensures) _ (c .before .before .before .before .before .before .before .before .before .before .before .before .before .before .before .before .before .before .before .before .before .before .tag .given .1) (c .before .before .before .before .before .before .before .before .before .before .before .before .before .before .before .before .before .before .before .before .if1 .left) (c .before .before .before .before .before .before .before .before .before .before .before .before .before .before .before .before .before .before .before .number .ensures) (c .before .before .before .before .before .before .before .before .before .before .before .before .before .before .before .before .before .place .given .1) (c .before .before .before .before .before .before .before .before .before .before .before .before .before .before .then-head .ensures) (c .before .before .before .before .before .before .before .before .wrote2 .ensures) (c .before .before .before .before .before .before .before .moved2 .ensures) (c .before .before .before .before .before .before .stmt .ensures)
+
 pub met : {M : Type 1} (t : ℕ) → lts.Closed (calls t) (else-branch-at t) else-branch.Post M
-met t = lts.spec (calls t) (else-branch-at t) else-branch.Post (λ c κs. search needs) (λ c. search needs) (λ c. search needs) (λ c. search needs) (λ c κs. search needs) (λ c κs. search needs) (λ c κs. search needs) (same-length t) (λ c. search needs) (λ c κs. search needs) (λ c. search needs) (λ c. search needs) (λ c. search needs) (λ c κs. search needs) (λ c κs. search needs) (λ c κs. search needs) (λ c κs. omega (arith, (c .before .before .before .before .before .before .before .before .before .before .before .before .before .before .before .before .before .before .before .before .before .before .pre))) (same-length-2 t) (same-length-3 t) (same-length-4 t) (λ c. search needs)
+met t = lts.spec (calls t) (else-branch-at t) else-branch.Post (λ c κs. search needs) (λ c. search needs) (λ c. search needs) (returns t) (λ c κs. search needs) (λ c κs. search needs) (λ c κs. search needs) (same-length t) (returns-2 t) (λ c κs. search needs) (λ c. search needs) (λ c. search needs) (returns-3 t) (λ c κs. search needs) (λ c κs. search needs) (λ c κs. search needs) (λ c κs. omega (arith, (c .before .before .before .before .before .before .before .before .before .before .before .before .before .before .before .before .before .before .before .before .before .before .pre))) (same-length-2 t) (same-length-3 t) (same-length-4 t) (returns-4 t)

@@ -4,6 +4,9 @@ use Prim.Native.Nat.{ℕ}
 use borrow.Author.Needs.{needs}
 use native.Mathlib.Omega.{arith}
 use Prim.Native.Nat.{ℕ}
+use Rattle.penne.specs.Read.{stmtOf, stmtKinds}
+use Rattle.tree.proofs.Statements.{none-below-8}
+use Rattle.statements.proofs.Arms.{arm, follows, poisoned}
 use Rattle.statements.proofs.+block+branches+else_branch+statement_of+statements+stmt.Lts-statement_of as lts
 use Rattle.statements.proofs.+block+branches+else_branch+statement_of+statements+stmt.Proof.Common.{block-below, branches-below, statement-of-at}
 use Rattle.statements.proofs.assignment.Reads as assignment-reads
@@ -21,61 +24,115 @@ abbrev calls : ℕ → lts.Claims
 calls t = (declaration-reads.Asked, declaration-reads.Learnt, assignment-reads.Asked, assignment-reads.Learnt, method-call-reads.Asked, method-call-reads.Learnt, loop-back-reads.Asked, loop-back-reads.Learnt, goto-reads.Asked, goto-reads.Learnt, label-reads.Asked, label-reads.Learnt, branches-below t, branches.Post, block-below t, block.Post, copy-poison-reads.Asked, copy-poison-reads.Learnt)
 
 same-length : (t : ℕ) → lts.Need-same-length (calls t) (statement-of-at t) statement-of.Post
+unfolding stmtOf stmtKinds
 same-length t c = (c .before .before .before .before .before .before .declaration .kept .1 .0)
 
 same-length-2 : (t : ℕ) → lts.Need-same-length-2 (calls t) (statement-of-at t) statement-of.Post
+unfolding stmtOf stmtKinds
 same-length-2 t c = (c .before .before .before .before .before .before .declaration .kept .1 .1 .0)
 
 same-length-3 : (t : ℕ) → lts.Need-same-length-3 (calls t) (statement-of-at t) statement-of.Post
+unfolding stmtOf stmtKinds
 same-length-3 t c = (c .before .before .before .before .before .before .declaration .kept .1 .1 .1 .0)
 
+returns : (t : ℕ) → lts.Need-returns (calls t) (statement-of-at t) statement-of.Post
+unfolding stmtOf stmtKinds
+returns t c = arm _ _ (c .before .before .before .before .before .before .before .before .before .before .match .keys1) (follows (λ _ p. p .entered (c .before .before .before .before .before .before .before .before .before .before .match .keys1)) (c .before .before .before .before .before .before .declaration .ensures))
+
 same-length-4 : (t : ℕ) → lts.Need-same-length-4 (calls t) (statement-of-at t) statement-of.Post
+unfolding stmtOf stmtKinds
 same-length-4 t c = (c .before .before .before .before .before .before .assignment .kept .1 .0)
 
 same-length-5 : (t : ℕ) → lts.Need-same-length-5 (calls t) (statement-of-at t) statement-of.Post
+unfolding stmtOf stmtKinds
 same-length-5 t c = (c .before .before .before .before .before .before .assignment .kept .1 .1 .0)
 
 same-length-6 : (t : ℕ) → lts.Need-same-length-6 (calls t) (statement-of-at t) statement-of.Post
+unfolding stmtOf stmtKinds
 same-length-6 t c = (c .before .before .before .before .before .before .assignment .kept .1 .1 .1 .0)
 
+returns-2 : (t : ℕ) → lts.Need-returns-2 (calls t) (statement-of-at t) statement-of.Post
+unfolding stmtOf stmtKinds
+returns-2 t c = arm _ _ (c .before .before .before .before .before .before .before .before .before .before .match .keys2) (follows (λ _ _. tt) (c .before .before .before .before .before .before .assignment .ensures))
+
 same-length-7 : (t : ℕ) → lts.Need-same-length-7 (calls t) (statement-of-at t) statement-of.Post
+unfolding stmtOf stmtKinds
 same-length-7 t c = (c .before .before .before .before .before .before .method-call .kept .1 .0)
 
 same-length-8 : (t : ℕ) → lts.Need-same-length-8 (calls t) (statement-of-at t) statement-of.Post
+unfolding stmtOf stmtKinds
 same-length-8 t c = (c .before .before .before .before .before .before .method-call .kept .1 .1 .0)
 
 same-length-9 : (t : ℕ) → lts.Need-same-length-9 (calls t) (statement-of-at t) statement-of.Post
+unfolding stmtOf stmtKinds
 same-length-9 t c = (c .before .before .before .before .before .before .method-call .kept .1 .1 .1 .0)
 
+returns-3 : (t : ℕ) → lts.Need-returns-3 (calls t) (statement-of-at t) statement-of.Post
+unfolding stmtOf stmtKinds
+returns-3 t c = arm _ _ (c .before .before .before .before .before .before .before .before .before .before .match .keys3) (follows (λ _ _. tt) (c .before .before .before .before .before .before .method-call .ensures))
+
+returns-4 : (t : ℕ) → lts.Need-returns-4 (calls t) (statement-of-at t) statement-of.Post
+unfolding stmtOf stmtKinds
+returns-4 t c = arm _ _ (c .before .before .before .before .match .keys4) (follows (λ _ _. tt) ((c .before .before .loop-back .ensures) _ _))
+
 same-length-11 : (t : ℕ) → lts.Need-same-length-11 (calls t) (statement-of-at t) statement-of.Post
+unfolding stmtOf stmtKinds
 same-length-11 t c = (c .before .before .before .before .goto .kept .1 .0)
 
 same-length-12 : (t : ℕ) → lts.Need-same-length-12 (calls t) (statement-of-at t) statement-of.Post
+unfolding stmtOf stmtKinds
 same-length-12 t c = (c .before .before .before .before .goto .kept .1 .1 .0)
 
+returns-5 : (t : ℕ) → lts.Need-returns-5 (calls t) (statement-of-at t) statement-of.Post
+unfolding stmtOf stmtKinds
+returns-5 t c = arm _ _ (c .before .before .before .before .before .before .before .match .keys5) (follows (λ _ p. p .worded) ((c .before .before .before .before .goto .ensures) _))
+
 same-length-13 : (t : ℕ) → lts.Need-same-length-13 (calls t) (statement-of-at t) statement-of.Post
+unfolding stmtOf stmtKinds
 same-length-13 t c = (c .before .before .before .before .label .kept .1 .0)
 
 same-length-14 : (t : ℕ) → lts.Need-same-length-14 (calls t) (statement-of-at t) statement-of.Post
+unfolding stmtOf stmtKinds
 same-length-14 t c = (c .before .before .before .before .label .kept .1 .1 .0)
 
+returns-6 : (t : ℕ) → lts.Need-returns-6 (calls t) (statement-of-at t) statement-of.Post
+unfolding stmtOf stmtKinds
+returns-6 t c = arm _ _ (c .before .before .before .before .before .before .before .match .keys6) (follows (λ _ p. p .worded) ((c .before .before .before .before .label .ensures) _))
+
 same-length-15 : (t : ℕ) → lts.Need-same-length-15 (calls t) (statement-of-at t) statement-of.Post
+unfolding stmtOf stmtKinds
 same-length-15 t c = (c .before .before .before .before .before .before .branches .kept .1 .0)
 
 same-length-16 : (t : ℕ) → lts.Need-same-length-16 (calls t) (statement-of-at t) statement-of.Post
+unfolding stmtOf stmtKinds
 same-length-16 t c = (c .before .before .before .before .before .before .branches .kept .1 .1 .0)
 
 same-length-17 : (t : ℕ) → lts.Need-same-length-17 (calls t) (statement-of-at t) statement-of.Post
+unfolding stmtOf stmtKinds
 same-length-17 t c = (c .before .before .before .before .before .before .branches .kept .1 .1 .1 .0)
 
+returns-7 : (t : ℕ) → lts.Need-returns-7 (calls t) (statement-of-at t) statement-of.Post
+unfolding stmtOf stmtKinds
+returns-7 t c = arm _ _ (c .before .before .before .before .before .before .before .before .before .before .match .keys7) (follows (λ _ _. tt) (c .before .before .before .before .before .before .branches .ensures))
+
 same-length-18 : (t : ℕ) → lts.Need-same-length-18 (calls t) (statement-of-at t) statement-of.Post
+unfolding stmtOf stmtKinds
 same-length-18 t c = (c .before .before .before .before .before .before .block .kept .1 .0)
 
 same-length-19 : (t : ℕ) → lts.Need-same-length-19 (calls t) (statement-of-at t) statement-of.Post
+unfolding stmtOf stmtKinds
 same-length-19 t c = (c .before .before .before .before .before .before .block .kept .1 .1 .0)
 
 same-length-20 : (t : ℕ) → lts.Need-same-length-20 (calls t) (statement-of-at t) statement-of.Post
+unfolding stmtOf stmtKinds
 same-length-20 t c = (c .before .before .before .before .before .before .block .kept .1 .1 .1 .0)
 
+returns-8 : (t : ℕ) → lts.Need-returns-8 (calls t) (statement-of-at t) statement-of.Post
+unfolding stmtOf stmtKinds
+returns-8 t c = arm _ _ (c .before .before .before .before .before .before .before .before .before .before .match .keys8) (follows (λ _ _. tt) (c .before .before .before .before .before .before .block .ensures))
+
+returns-9 : (t : ℕ) → lts.Need-returns-9 (calls t) (statement-of-at t) statement-of.Post
+returns-9 t c = poisoned _ _ (none-below-8 ((c .before .before .before .before .match .rest .0 .0 .0 .0 .0 .0 .0 .1)) ((c .before .before .before .before .match .rest .0 .0 .0 .0 .0 .0 .1)) ((c .before .before .before .before .match .rest .0 .0 .0 .0 .0 .1)) ((c .before .before .before .before .match .rest .0 .0 .0 .0 .1)) ((c .before .before .before .before .match .rest .0 .0 .0 .1)) ((c .before .before .before .before .match .rest .0 .0 .1)) ((c .before .before .before .before .match .rest .0 .1)) ((c .before .before .before .before .match .rest .1))) ((c .before .before .copy-poison .ensures) _ _)
+
 pub met : {M : Type 1} (t : ℕ) → lts.Closed (calls t) (statement-of-at t) statement-of.Post M
-met t = lts.spec (calls t) (statement-of-at t) statement-of.Post (λ c κs. search needs) (λ c κs. search needs) (λ c κs. search needs) (λ c κs. search needs) (λ c κs. search needs) (λ c κs. search needs) (λ c κs. omega (arith, (c .before .before .before .before .before .before .before .before .pre))) (λ c κs. omega (arith, (c .before .before .before .before .before .before .before .before .pre))) (λ c κs. search needs) (same-length t) (same-length-2 t) (same-length-3 t) (λ c. search needs) (same-length-4 t) (same-length-5 t) (same-length-6 t) (λ c. search needs) (same-length-7 t) (same-length-8 t) (same-length-9 t) (λ c. search needs) (λ c. search needs) (λ c. search needs) (same-length-11 t) (same-length-12 t) (λ c. search needs) (same-length-13 t) (same-length-14 t) (λ c. search needs) (same-length-15 t) (same-length-16 t) (same-length-17 t) (λ c. search needs) (same-length-18 t) (same-length-19 t) (same-length-20 t) (λ c. search needs) (λ c. search needs) (λ c. search needs)
+met t = lts.spec (calls t) (statement-of-at t) statement-of.Post (λ c κs. search needs) (λ c κs. search needs) (λ c κs. search needs) (λ c κs. search needs) (λ c κs. search needs) (λ c κs. search needs) (λ c κs. omega (arith, (c .before .before .before .before .before .before .before .before .pre))) (λ c κs. omega (arith, (c .before .before .before .before .before .before .before .before .pre))) (λ c κs. search needs) (same-length t) (same-length-2 t) (same-length-3 t) (returns t) (same-length-4 t) (same-length-5 t) (same-length-6 t) (returns-2 t) (same-length-7 t) (same-length-8 t) (same-length-9 t) (returns-3 t) (λ c. search needs) (returns-4 t) (same-length-11 t) (same-length-12 t) (returns-5 t) (same-length-13 t) (same-length-14 t) (returns-6 t) (same-length-15 t) (same-length-16 t) (same-length-17 t) (returns-7 t) (same-length-18 t) (same-length-19 t) (same-length-20 t) (returns-8 t) (λ c. search needs) (returns-9 t)

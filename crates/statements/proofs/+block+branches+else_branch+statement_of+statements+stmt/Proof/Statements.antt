@@ -5,7 +5,12 @@ use borrow.Author.Needs.{needs}
 use native.Mathlib.Omega.{arith}
 use mathlib.Core.Path.{_∙_}
 use Prim.Native.Nat.{ℕ}
-use Rattle.walk.proofs.Loops.{Kept, kept-start, kept-more}
+use Rattle.penne.specs.Read.{readStmt, toStms}
+use Rattle.penne.specs.Write.{stmB}
+use Rattle.walk.proofs.Leading.{Going, going-start, going-more, going-done}
+use Rattle.statements.specs.Stating.{stmWalk}
+use Rattle.statements.proofs.Fit.{stms-listed}
+use Rattle.statements.proofs.Nesting.{stms-not, stms}
 use Rattle.statements.proofs.+block+branches+else_branch+statement_of+statements+stmt.Lts-statements as lts
 use Rattle.statements.proofs.+block+branches+else_branch+statement_of+statements+stmt.Proof.Common.{statements-at, stmt-below}
 use Rattle.walk.proofs.state.Walk.moved.Reads as moved-reads
@@ -19,25 +24,31 @@ abbrev calls : ℕ → lts.Claims
 calls t = (number-reads.Asked, number-reads.Learnt, then-number-reads.Asked, then-number-reads.Learnt, wrote-reads.Asked, wrote-reads.Learnt, moved-reads.Asked, moved-reads.Learnt, stmt-below t, stmt.Post)
 
 abbrev Inv-loop : lts.InvT-loop
-Inv-loop tree answer₀ list₀ work₀ left at n a s₀ rest₀ answer list work s rest = Kept answer₀ list₀ work₀ answer list work
+Inv-loop tree answer₀ list₀ work₀ left at n a s₀ rest₀ answer list work s rest = Going tree (readStmt left) (λ xs b. stmWalk stmB (toStms xs) b) n s₀ answer₀ list₀ work₀ rest s answer list work
 
 abbrev μ-loop : lts.MeasureT-loop
 μ-loop tree answer₀ list₀ work₀ left at n a s₀ rest₀ answer list work s rest = rest
 
+returns : (t : ℕ) → lts.Need-returns (calls t) (statements-at t) statements.Post Inv-loop μ-loop
+returns t c = stms-not (c .before .before .number .ensures) _ (c .enum-told .given .1)
+
 loop-holds : (t : ℕ) → lts.Need-loop-holds (calls t) (statements-at t) statements.Post Inv-loop μ-loop
-loop-holds t c = kept-start
+loop-holds t c = going-start
 
 loop-again : (t : ℕ) → lts.Need-loop-again (calls t) (statements-at t) statements.Post Inv-loop μ-loop
-loop-again t c = kept-more (c .before .before .before .before .before .before .before .before .before .before .before .loop .inv) (c .before .before .before .before .before .before .stmt .kept .1 .0) (c .before .before .before .before .before .before .stmt .kept .1 .1 .0) (c .before .before .before .before .before .before .stmt .kept .1 .1 .1 .0)
+loop-again t c = going-more stms-listed (c .before .before .before .before .before .before .before .before .before .before .before .loop .inv) (c .before .before .before .before .before .before .before .before .before .before .loop-test .taken) (c .before .before .before .before .before .before .stmt .ensures) (c .before .before .before .before .before .before .stmt .kept .1 .0) (c .before .before .before .before .before .before .stmt .kept .1 .1 .0) (c .before .before .before .before .before .before .stmt .kept .1 .1 .1 .0)
 
 same-length : (t : ℕ) → lts.Need-same-length (calls t) (statements-at t) statements.Post Inv-loop μ-loop
-same-length t c = (c .before .loop .inv .long-answer) ∙ (c .before .before .before .before .before .before .then-number .kept .0)
+same-length t c = (c .before .loop .inv .kept .long-answer) ∙ (c .before .before .before .before .before .before .then-number .kept .0)
 
 same-length-2 : (t : ℕ) → lts.Need-same-length-2 (calls t) (statements-at t) statements.Post Inv-loop μ-loop
-same-length-2 t c = (c .before .loop .inv .long-list)
+same-length-2 t c = (c .before .loop .inv .kept .long-list)
 
 same-length-3 : (t : ℕ) → lts.Need-same-length-3 (calls t) (statements-at t) statements.Post Inv-loop μ-loop
-same-length-3 t c = (c .before .loop .inv .long-work)
+same-length-3 t c = (c .before .loop .inv .kept .long-work)
+
+returns-2 : (t : ℕ) → lts.Need-returns-2 (calls t) (statements-at t) statements.Post Inv-loop μ-loop
+returns-2 t c = stms (c .before .before .before .before .before .before .before .before .before .before .before .number .ensures) _ (c .before .before .before .before .before .before .before .before .before .count .given .1) (c .before .before .before .before .before .before .then-number .ensures) (c .before .before .before .wrote .ensures) (c .before .before .moved .ensures) (going-done stms-listed (c .before .loop .inv) (c .loop-test .left))
 
 pub met : {M : Type 1} (t : ℕ) → lts.Closed (calls t) (statements-at t) statements.Post M
-met t = lts.spec (calls t) (statements-at t) statements.Post Inv-loop μ-loop (λ c κs. search needs) (λ c. search needs) (λ c. search needs) (λ c. search needs) (λ c κs. search needs) (λ c κs. search needs) (λ c κs. search needs) (loop-holds t) (λ c κs. omega (arith, (c .before .before .before .before .before .before .before .before .before .before .before .before .before .before .before .before .before .before .before .pre))) (λ c. search needs) (λ c. search needs) (loop-again t) (same-length t) (same-length-2 t) (same-length-3 t) (λ c. search needs)
+met t = lts.spec (calls t) (statements-at t) statements.Post Inv-loop μ-loop (λ c κs. search needs) (λ c. search needs) (λ c. search needs) (returns t) (λ c κs. search needs) (λ c κs. search needs) (λ c κs. search needs) (loop-holds t) (λ c κs. omega (arith, (c .before .before .before .before .before .before .before .before .before .before .before .before .before .before .before .before .before .before .before .pre))) (λ c. search needs) (λ c. search needs) (loop-again t) (same-length t) (same-length-2 t) (same-length-3 t) (returns-2 t)

@@ -4,6 +4,7 @@ use Prim.Native.Nat.{ℕ}
 use borrow.Author.Needs.{needs}
 use native.Mathlib.Omega.{arith}
 use Prim.Native.Nat.{ℕ}
+use Rattle.statements.proofs.Counted.{stmt-unread, stmt-deep, stmt-many, stmt-goes}
 use Rattle.statements.proofs.+block+branches+else_branch+statement_of+statements+stmt.Lts-stmt as lts
 use Rattle.statements.proofs.+block+branches+else_branch+statement_of+statements+stmt.Proof.Common.{statement-of-below, stmt-at}
 use Rattle.tree.proofs.number.below.Reads as below-reads
@@ -16,6 +17,15 @@ use Rattle.statements.proofs.stmt.Reads as stmt
 
 abbrev calls : ℕ → lts.Claims
 calls t = (below-reads.Asked, below-reads.Learnt, statement-counts-reads.Asked, statement-counts-reads.Learnt, count-reads.Asked, count-reads.Learnt, counted-reads.Asked, counted-reads.Learnt, moved-reads.Asked, moved-reads.Learnt, statement-of-below t, statement-of.Post)
+
+returns : (t : ℕ) → lts.Need-returns (calls t) (stmt-at t) stmt.Post
+returns t c = stmt-unread (c .before .before .below .ensures) _ (c .enum-told .given .1)
+
+returns-2 : (t : ℕ) → lts.Need-returns-2 (calls t) (stmt-at t) stmt.Post
+returns-2 t c = stmt-deep (c .before .before .before .before .below .ensures) _ (c .before .before .kind .given .1) (c .if1 .taken)
+
+returns-3 : (t : ℕ) → lts.Need-returns-3 (calls t) (stmt-at t) stmt.Post
+returns-3 t c = stmt-many (c .before .before .before .before .before .before .before .before .before .below .ensures) _ (c .before .before .before .before .before .before .before .kind .given .1) (c .before .before .count .ensures) (c .before .before .before .statement-counts .ensures) (c .before .before .before .before .before .if1 .left) (c .enum-told2 .given .1)
 
 sub-statement-of : (t : ℕ) → lts.Need-sub-statement-of (calls t) (stmt-at t) stmt.Post
 sub-statement-of t c = omega (arith, (c .before .before .before .before .before .before .before .before .before .before .before .if1 .left))
@@ -32,5 +42,8 @@ same-length-2 t c = (c .before .before .before .before .before .before .statemen
 same-length-3 : (t : ℕ) → lts.Need-same-length-3 (calls t) (stmt-at t) stmt.Post
 same-length-3 t c = (c .before .before .before .before .before .before .statement-of .kept .1 .1 .1 .0)
 
+returns-4 : (t : ℕ) → lts.Need-returns-4 (calls t) (stmt-at t) stmt.Post
+returns-4 t c = stmt-goes (c .before .before .before .before .before .before .before .before .before .before .before .before .before .before .before .before .before .before .before .before .before .before .below .ensures) (c .before .before .before .before .before .before .before .before .before .before .before .before .before .before .before .before .before .before .before .before .kind .given .1) (c .before .before .before .before .before .before .before .before .before .before .before .before .before .before .before .before .before .before .if1 .left) (c .before .before .before .before .before .before .before .before .before .before .before .before .before .before .before .count .ensures) (c .before .before .before .before .before .before .before .before .before .before .before .before .before .before .before .before .statement-counts .ensures) (c .before .before .before .before .before .before .before .before .before .before .before .before .before .more .given .1) (c .before .before .before .before .before .before .before .before .counted .ensures) (c .before .before .before .before .before .before .before .moved .ensures) (c .before .before .before .before .before .before .statement-of .ensures)
+
 pub met : {M : Type 1} (t : ℕ) → lts.Closed (calls t) (stmt-at t) stmt.Post M
-met t = lts.spec (calls t) (stmt-at t) stmt.Post (λ c κs. search needs) (λ c. search needs) (λ c. search needs) (λ c. search needs) (λ c. search needs) (λ c κs. search needs) (λ c κs. search needs) (λ c. search needs) (λ c. search needs) (λ c. search needs) (λ c κs. search needs) (λ c κs. search needs) (sub-statement-of t) (statement-of-requires t) (same-length t) (same-length-2 t) (same-length-3 t) (λ c. search needs)
+met t = lts.spec (calls t) (stmt-at t) stmt.Post (λ c κs. search needs) (λ c. search needs) (λ c. search needs) (returns t) (returns-2 t) (λ c κs. search needs) (λ c κs. search needs) (λ c. search needs) (λ c. search needs) (returns-3 t) (λ c κs. search needs) (λ c κs. search needs) (sub-statement-of t) (statement-of-requires t) (same-length t) (same-length-2 t) (same-length-3 t) (returns-4 t)

@@ -5,27 +5,42 @@ use borrow.Author.Needs.{needs}
 use native.Mathlib.Omega.{arith}
 use mathlib.Core.Path.{_∙_}
 use Prim.Native.Nat.{ℕ}
+use Rattle.types.proofs.Trying.{fine-is, bad-is}
+use Rattle.types.proofs.Arms.{array-fine, array-bad}
+use Rattle.types.specs.Typing.{walkOf, faultOf}
 use Rattle.types.proofs.+array+array_with_named_length+element_of+type_of+value_type.Lts-array as lts
 use Rattle.types.proofs.+array+array_with_named_length+element_of+type_of+value_type.Proof.Common.{array-at, element-of-below}
 use Rattle.types.proofs.array.Reads as array
-use Rattle.types.proofs.array_length.Reads as array-length-reads
+use Rattle.types.proofs.copy_length.Reads as copy-length-reads
 use Rattle.types.proofs.element_of.Reads as element-of
 use Rattle.types.proofs.past_length.Reads as past-length-reads
 
 abbrev calls : ℕ → lts.Claims
-calls t = (element-of-below t, element-of.Post, array-length-reads.Asked, array-length-reads.Learnt, past-length-reads.Asked, past-length-reads.Learnt)
+calls t = (element-of-below t, element-of.Post, copy-length-reads.Asked, copy-length-reads.Learnt, past-length-reads.Asked, past-length-reads.Learnt)
 
 same-length : (t : ℕ) → lts.Need-same-length (calls t) (array-at t) array.Post
-same-length t c = (c .before .before .array-length .kept .1 .0) ∙ (c .before .before .before .before .before .before .before .before .before .before .before .element-of .kept .1 .0)
+unfolding walkOf faultOf
+same-length t c = (c .before .before .copy-length .kept .1 .0) ∙ (c .before .before .before .before .before .before .before .before .before .before .before .element-of .kept .1 .0)
 
 same-length-2 : (t : ℕ) → lts.Need-same-length-2 (calls t) (array-at t) array.Post
+unfolding walkOf faultOf
 same-length-2 t c = (c .before .before .before .before .before .before .before .before .before .before .before .element-of .kept .1 .1 .0)
 
+returns : (t : ℕ) → lts.Need-returns (calls t) (array-at t) array.Post
+unfolding walkOf faultOf
+returns t c = λ own l. array-fine _ _ (fine-is (c .before .before .before .before .before .element .given .1) ((c .before .before .before .before .before .before .before .before .before .before .before .element-of .ensures) own l)) ((c .before .before .copy-length .ensures) l _)
+
 same-length-3 : (t : ℕ) → lts.Need-same-length-3 (calls t) (array-at t) array.Post
+unfolding walkOf faultOf
 same-length-3 t c = (c .before .before .before .before .before .before .before .before .element-of .kept .1 .0)
 
 same-length-4 : (t : ℕ) → lts.Need-same-length-4 (calls t) (array-at t) array.Post
+unfolding walkOf faultOf
 same-length-4 t c = (c .before .before .before .before .before .before .before .before .element-of .kept .1 .1 .0)
 
+returns-2 : (t : ℕ) → lts.Need-returns-2 (calls t) (array-at t) array.Post
+unfolding walkOf faultOf
+returns-2 t c = λ own l. array-bad _ _ (bad-is (c .before .before .element2 .given .1) ((c .before .before .before .before .before .before .before .before .element-of .ensures) own l)) ((c .past-length .ensures) _ l _)
+
 pub met : {M : Type 1} (t : ℕ) → lts.Closed (calls t) (array-at t) array.Post M
-met t = lts.spec (calls t) (array-at t) array.Post (λ c κs. omega (arith, (c .before .before .before .before .before .pre))) (λ c. search needs) (λ c κs. search needs) (λ c. search needs) (λ c κs. search needs) (same-length t) (same-length-2 t) (λ c. search needs) (same-length-3 t) (same-length-4 t) (λ c. search needs)
+met t = lts.spec (calls t) (array-at t) array.Post (λ c κs. omega (arith, (c .before .before .before .before .before .pre))) (λ c. search needs) (λ c κs. search needs) (λ c. search needs) (λ c κs. search needs) (same-length t) (same-length-2 t) (returns t) (same-length-3 t) (same-length-4 t) (returns-2 t)

@@ -5,6 +5,9 @@ use borrow.Author.Needs.{needs}
 use native.Mathlib.Omega.{arith}
 use mathlib.Core.Path.{_∙_}
 use Prim.Native.Nat.{ℕ}
+use Rattle.types.proofs.Trying.{fine-is, bad-is}
+use Rattle.types.proofs.Arms.{named-fine, named-late, named-bad}
+use Rattle.types.specs.Typing.{walkOf, faultOf}
 use Rattle.types.proofs.+array+array_with_named_length+element_of+type_of+value_type.Lts-array_with_named_length as lts
 use Rattle.types.proofs.+array+array_with_named_length+element_of+type_of+value_type.Proof.Common.{array-with-named-length-at, element-of-below}
 use Rattle.types.proofs.array_with_named_length.Reads as array-with-named-length
@@ -17,22 +20,40 @@ abbrev calls : ℕ → lts.Claims
 calls t = (element-of-below t, element-of.Post, named-length-reads.Asked, named-length-reads.Learnt, wrote-reads.Asked, wrote-reads.Learnt, past-name-reads.Asked, past-name-reads.Learnt)
 
 same-length : (t : ℕ) → lts.Need-same-length (calls t) (array-with-named-length-at t) array-with-named-length.Post
+unfolding walkOf faultOf
 same-length t c = (c .before .before .before .before .before .before .before .named-length .kept .1 .0) ∙ (c .before .before .before .before .before .before .before .before .before .before .before .before .before .before .before .before .before .element-of .kept .1 .0)
 
 same-length-2 : (t : ℕ) → lts.Need-same-length-2 (calls t) (array-with-named-length-at t) array-with-named-length.Post
+unfolding walkOf faultOf
 same-length-2 t c = (c .before .before .before .before .before .before .before .named-length .kept .1 .1 .0) ∙ (c .before .before .before .before .before .before .before .before .before .before .before .before .before .before .before .before .before .element-of .kept .1 .1 .0)
 
+returns : (t : ℕ) → lts.Need-returns (calls t) (array-with-named-length-at t) array-with-named-length.Post
+unfolding walkOf faultOf
+returns t c = λ own l. named-fine _ _ (fine-is (c .before .before .before .before .before .before .before .before .before .before .before .element .given .1) ((c .before .before .before .before .before .before .before .before .before .before .before .before .before .before .before .before .before .element-of .ensures) own l)) (fine-is (c .before .length .given .1) ((c .before .before .before .before .before .before .before .named-length .ensures) l))
+
 same-length-3 : (t : ℕ) → lts.Need-same-length-3 (calls t) (array-with-named-length-at t) array-with-named-length.Post
+unfolding walkOf faultOf
 same-length-3 t c = (c .before .before .before .before .before .before .before .before .named-length .kept .1 .0) ∙ (c .before .before .before .before .before .before .before .before .before .before .before .before .before .before .before .before .before .before .element-of .kept .1 .0)
 
 same-length-4 : (t : ℕ) → lts.Need-same-length-4 (calls t) (array-with-named-length-at t) array-with-named-length.Post
+unfolding walkOf faultOf
 same-length-4 t c = (c .before .before .before .before .before .before .before .before .named-length .kept .1 .1 .0) ∙ (c .before .before .before .before .before .before .before .before .before .before .before .before .before .before .before .before .before .before .element-of .kept .1 .1 .0)
 
+returns-2 : (t : ℕ) → lts.Need-returns-2 (calls t) (array-with-named-length-at t) array-with-named-length.Post
+unfolding walkOf faultOf
+returns-2 t c = λ own l. named-late _ _ (fine-is (c .before .before .before .before .before .before .before .before .before .before .before .before .element .given .1) ((c .before .before .before .before .before .before .before .before .before .before .before .before .before .before .before .before .before .before .element-of .ensures) own l)) (bad-is (c .before .before .length2 .given .1) ((c .before .before .before .before .before .before .before .before .named-length .ensures) l)) (c .wrote .ensures)
+
 same-length-5 : (t : ℕ) → lts.Need-same-length-5 (calls t) (array-with-named-length-at t) array-with-named-length.Post
+unfolding walkOf faultOf
 same-length-5 t c = (c .before .before .before .before .before .before .before .before .element-of .kept .1 .0)
 
 same-length-6 : (t : ℕ) → lts.Need-same-length-6 (calls t) (array-with-named-length-at t) array-with-named-length.Post
+unfolding walkOf faultOf
 same-length-6 t c = (c .before .before .before .before .before .before .before .before .element-of .kept .1 .1 .0)
 
+returns-3 : (t : ℕ) → lts.Need-returns-3 (calls t) (array-with-named-length-at t) array-with-named-length.Post
+unfolding walkOf faultOf
+returns-3 t c = λ own l. named-bad _ _ (bad-is (c .before .before .element2 .given .1) ((c .before .before .before .before .before .before .before .before .element-of .ensures) own l)) ((c .past-name .ensures) _ l _)
+
 pub met : {M : Type 1} (t : ℕ) → lts.Closed (calls t) (array-with-named-length-at t) array-with-named-length.Post M
-met t = lts.spec (calls t) (array-with-named-length-at t) array-with-named-length.Post (λ c κs. omega (arith, (c .before .before .before .before .before .pre))) (λ c. search needs) (λ c κs. search needs) (λ c. search needs) (λ c. search needs) (λ c κs. search needs) (λ c. search needs) (λ c κs. search needs) (same-length t) (same-length-2 t) (λ c. search needs) (same-length-3 t) (same-length-4 t) (λ c. search needs) (same-length-5 t) (same-length-6 t) (λ c. search needs)
+met t = lts.spec (calls t) (array-with-named-length-at t) array-with-named-length.Post (λ c κs. omega (arith, (c .before .before .before .before .before .pre))) (λ c. search needs) (λ c κs. search needs) (λ c. search needs) (λ c. search needs) (λ c κs. search needs) (λ c. search needs) (λ c κs. search needs) (same-length t) (same-length-2 t) (returns t) (same-length-3 t) (same-length-4 t) (returns-2 t) (same-length-5 t) (same-length-6 t) (returns-3 t)

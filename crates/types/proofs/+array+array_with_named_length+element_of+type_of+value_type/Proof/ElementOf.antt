@@ -5,6 +5,9 @@ use borrow.Author.Needs.{needs}
 use native.Mathlib.Omega.{arith}
 use mathlib.Core.Path.{_∙_}
 use Prim.Native.Nat.{ℕ}
+use Rattle.types.proofs.Trying.{fine-is, bad-is}
+use Rattle.types.proofs.Arms.{element-fine, element-bad}
+use Rattle.types.specs.Typing.{walkOf, faultOf}
 use Rattle.types.proofs.+array+array_with_named_length+element_of+type_of+value_type.Lts-element_of as lts
 use Rattle.types.proofs.+array+array_with_named_length+element_of+type_of+value_type.Proof.Common.{element-of-at, value-type-below}
 use Rattle.types.proofs.element_of.Reads as element-of
@@ -16,16 +19,28 @@ abbrev calls : ℕ → lts.Claims
 calls t = (then-number-reads.Asked, then-number-reads.Learnt, wrote-reads.Asked, wrote-reads.Learnt, value-type-below t, value-type.Post)
 
 same-length : (t : ℕ) → lts.Need-same-length (calls t) (element-of-at t) element-of.Post
+unfolding walkOf faultOf
 same-length t c = (c .before .before .before .before .before .before .before .value-type .kept .1 .0) ∙ (c .before .before .before .before .before .before .before .before .before .before .before .before .before .then-number .kept .0)
 
 same-length-2 : (t : ℕ) → lts.Need-same-length-2 (calls t) (element-of-at t) element-of.Post
+unfolding walkOf faultOf
 same-length-2 t c = (c .before .before .before .before .before .before .before .value-type .kept .1 .1 .0)
 
+returns : (t : ℕ) → lts.Need-returns (calls t) (element-of-at t) element-of.Post
+unfolding walkOf faultOf
+returns t c = λ own l. element-fine _ (c .before .before .before .before .before .before .before .before .before .before .before .before .before .then-number .ensures) (c .before .before .before .before .before .before .before .before .wrote .ensures) (fine-is (c .before .element .given .1) ((c .before .before .before .before .before .before .before .value-type .ensures) own l))
+
 same-length-3 : (t : ℕ) → lts.Need-same-length-3 (calls t) (element-of-at t) element-of.Post
+unfolding walkOf faultOf
 same-length-3 t c = (c .before .before .before .before .before .before .before .before .value-type .kept .1 .0) ∙ (c .before .before .before .before .before .before .before .before .before .before .before .before .before .before .then-number .kept .0)
 
 same-length-4 : (t : ℕ) → lts.Need-same-length-4 (calls t) (element-of-at t) element-of.Post
+unfolding walkOf faultOf
 same-length-4 t c = (c .before .before .before .before .before .before .before .before .value-type .kept .1 .1 .0)
 
+returns-2 : (t : ℕ) → lts.Need-returns-2 (calls t) (element-of-at t) element-of.Post
+unfolding walkOf faultOf
+returns-2 t c = λ own l. element-bad _ (c .before .before .before .before .before .before .before .before .before .before .before .before .before .before .then-number .ensures) (c .before .before .before .before .before .before .before .before .before .wrote .ensures) (bad-is (c .before .before .element2 .given .1) ((c .before .before .before .before .before .before .before .before .value-type .ensures) own l)) (c .wrote2 .ensures)
+
 pub met : {M : Type 1} (t : ℕ) → lts.Closed (calls t) (element-of-at t) element-of.Post M
-met t = lts.spec (calls t) (element-of-at t) element-of.Post (λ c κs. search needs) (λ c κs. search needs) (λ c κs. omega (arith, (c .before .before .before .before .before .before .before .before .before .before .pre))) (λ c. search needs) (λ c. search needs) (λ c κs. search needs) (same-length t) (same-length-2 t) (λ c. search needs) (same-length-3 t) (same-length-4 t) (λ c. search needs)
+met t = lts.spec (calls t) (element-of-at t) element-of.Post (λ c κs. search needs) (λ c κs. search needs) (λ c κs. omega (arith, (c .before .before .before .before .before .before .before .before .before .before .pre))) (λ c. search needs) (λ c. search needs) (λ c κs. search needs) (same-length t) (same-length-2 t) (returns t) (same-length-3 t) (same-length-4 t) (returns-2 t)

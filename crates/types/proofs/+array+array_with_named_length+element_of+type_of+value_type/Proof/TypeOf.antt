@@ -4,6 +4,10 @@ use Prim.Native.Nat.{ℕ}
 use borrow.Author.Needs.{needs}
 use native.Mathlib.Omega.{arith}
 use Prim.Native.Nat.{ℕ}
+use mathlib.Core.Logic.{⊎-elim, inl, inr}
+use Rattle.types.proofs.Arms.{type-array, type-named, type-word, type-arraylike, type-struct, type-unresolved, type-behind, type-plain}
+use mathlib.Core.Bool.{false}
+use Rattle.types.specs.Typing.{walkOf, faultOf}
 use Rattle.types.proofs.+array+array_with_named_length+element_of+type_of+value_type.Lts-type_of as lts
 use Rattle.types.proofs.+array+array_with_named_length+element_of+type_of+value_type.Proof.Common.{array-below, array-with-named-length-below, element-of-below, type-of-at}
 use Rattle.types.proofs.array.Reads as array
@@ -15,7 +19,7 @@ use Rattle.types.proofs.type_of.Reads as type-of
 use Rattle.types.proofs.word.Reads as word-reads
 
 abbrev calls : ℕ → lts.Claims
-calls t = (array-below t, array.Post, array-with-named-length-below t, array-with-named-length.Post, structure-reads.Asked, structure-reads.Learnt, word-reads.Asked, word-reads.Learnt, plain-reads.Asked, plain-reads.Learnt, element-of-below t, element-of.Post)
+calls t = (array-below t, array.Post, array-with-named-length-below t, array-with-named-length.Post, structure-reads.Asked, structure-reads.Learnt, word-reads.Asked, word-reads.Learnt, element-of-below t, element-of.Post, plain-reads.Asked, plain-reads.Learnt)
 
 same-length : (t : ℕ) → lts.Need-same-length (calls t) (type-of-at t) type-of.Post
 same-length t c = (c .before .before .before .before .array .kept .1 .0)
@@ -23,11 +27,17 @@ same-length t c = (c .before .before .before .before .array .kept .1 .0)
 same-length-2 : (t : ℕ) → lts.Need-same-length-2 (calls t) (type-of-at t) type-of.Post
 same-length-2 t c = (c .before .before .before .before .array .kept .1 .1 .0)
 
+returns : (t : ℕ) → lts.Need-returns (calls t) (type-of-at t) type-of.Post
+returns t c = λ own l. type-array _ _ _ (c .before .before .before .before .before .before .before .match .keys1) ((c .before .before .before .before .array .ensures) own l)
+
 same-length-3 : (t : ℕ) → lts.Need-same-length-3 (calls t) (type-of-at t) type-of.Post
 same-length-3 t c = (c .before .before .before .before .array-with-named-length .kept .1 .0)
 
 same-length-4 : (t : ℕ) → lts.Need-same-length-4 (calls t) (type-of-at t) type-of.Post
 same-length-4 t c = (c .before .before .before .before .array-with-named-length .kept .1 .1 .0)
+
+returns-2 : (t : ℕ) → lts.Need-returns-2 (calls t) (type-of-at t) type-of.Post
+returns-2 t c = λ own l. type-named _ _ _ (c .before .before .before .before .before .before .before .match .keys2) ((c .before .before .before .before .array-with-named-length .ensures) own l)
 
 same-length-5 : (t : ℕ) → lts.Need-same-length-5 (calls t) (type-of-at t) type-of.Post
 same-length-5 t c = (c .before .before .before .before .structure .kept .1 .0)
@@ -35,11 +45,17 @@ same-length-5 t c = (c .before .before .before .before .structure .kept .1 .0)
 same-length-6 : (t : ℕ) → lts.Need-same-length-6 (calls t) (type-of-at t) type-of.Post
 same-length-6 t c = (c .before .before .before .before .structure .kept .1 .1 .0)
 
+returns-3 : (t : ℕ) → lts.Need-returns-3 (calls t) (type-of-at t) type-of.Post
+returns-3 t c = λ own l. type-struct _ _ _ (c .before .before .before .before .before .before .before .match .keys3) ((c .before .before .before .before .structure .ensures) l)
+
 same-length-7 : (t : ℕ) → lts.Need-same-length-7 (calls t) (type-of-at t) type-of.Post
 same-length-7 t c = (c .before .before .before .before .word .kept .1 .0)
 
 same-length-8 : (t : ℕ) → lts.Need-same-length-8 (calls t) (type-of-at t) type-of.Post
 same-length-8 t c = (c .before .before .before .before .word .kept .1 .1 .0)
+
+returns-4 : (t : ℕ) → lts.Need-returns-4 (calls t) (type-of-at t) type-of.Post
+returns-4 t c = λ own l. type-word _ _ _ (c .before .before .before .before .before .before .before .match .keys4) ((c .before .before .before .before .word .ensures) _ _ l)
 
 same-length-9 : (t : ℕ) → lts.Need-same-length-9 (calls t) (type-of-at t) type-of.Post
 same-length-9 t c = (c .before .before .before .before .structure2 .kept .1 .0)
@@ -47,17 +63,30 @@ same-length-9 t c = (c .before .before .before .before .structure2 .kept .1 .0)
 same-length-10 : (t : ℕ) → lts.Need-same-length-10 (calls t) (type-of-at t) type-of.Post
 same-length-10 t c = (c .before .before .before .before .structure2 .kept .1 .1 .0)
 
+returns-5 : (t : ℕ) → lts.Need-returns-5 (calls t) (type-of-at t) type-of.Post
+returns-5 t c = λ own l. type-unresolved _ _ _ (c .before .before .before .before .before .before .before .match .keys5) ((c .before .before .before .before .structure2 .ensures) l)
+
+same-length-11 : (t : ℕ) → lts.Need-same-length-11 (calls t) (type-of-at t) type-of.Post
+same-length-11 t c = (c .before .before .before .before .element-of .kept .1 .0)
+
+same-length-12 : (t : ℕ) → lts.Need-same-length-12 (calls t) (type-of-at t) type-of.Post
+same-length-12 t c = (c .before .before .before .before .element-of .kept .1 .1 .0)
+
+returns-6 : (t : ℕ) → lts.Need-returns-6 (calls t) (type-of-at t) type-of.Post
+returns-6 t c = λ own l. type-arraylike _ _ _ (c .before .before .before .before .before .before .before .before .before .match .rest .0 .0 .0 .0 .1) (c .before .before .before .before .before .before .before .before .before .match .rest .0 .0 .0 .1) (c .before .before .before .before .before .before .before .before .if1 .left) (c .before .before .before .before .before .before .before .if2 .taken) ((c .before .before .before .before .element-of .ensures) own l)
+
 same-length-13 : (t : ℕ) → lts.Need-same-length-13 (calls t) (type-of-at t) type-of.Post
-same-length-13 t c = (c .before .before .before .before .element-of .kept .1 .0)
+same-length-13 t c = (c .before .before .before .before .element-of2 .kept .1 .0)
 
 same-length-14 : (t : ℕ) → lts.Need-same-length-14 (calls t) (type-of-at t) type-of.Post
-same-length-14 t c = (c .before .before .before .before .element-of .kept .1 .1 .0)
+same-length-14 t c = (c .before .before .before .before .element-of2 .kept .1 .1 .0)
 
-same-length-15 : (t : ℕ) → lts.Need-same-length-15 (calls t) (type-of-at t) type-of.Post
-same-length-15 t c = (c .before .before .before .before .element-of2 .kept .1 .0)
+returns-7 : (t : ℕ) → lts.Need-returns-7 (calls t) (type-of-at t) type-of.Post
+returns-7 t c = λ own l. type-behind _ _ _ (c .before .before .before .before .before .before .before .before .if3 .left) (c .before .before .before .before .before .before .before .if4 .taken) ((c .before .before .before .before .element-of2 .ensures) false l)
 
-same-length-16 : (t : ℕ) → lts.Need-same-length-16 (calls t) (type-of-at t) type-of.Post
-same-length-16 t c = (c .before .before .before .before .element-of2 .kept .1 .1 .0)
+returns-8 : (t : ℕ) → lts.Need-returns-8 (calls t) (type-of-at t) type-of.Post
+unfolding walkOf faultOf
+returns-8 t c = λ own l. type-plain _ _ _ ((c .before .before .plain .ensures) _ l _) ((c .before .before .before .before .before .match .rest .0 .0 .0 .0 .1)) ((c .before .before .before .before .before .match .rest .0 .0 .0 .1)) ((c .before .before .before .before .before .match .rest .0 .0 .1)) ((c .before .before .before .before .before .match .rest .0 .1)) ((c .before .before .before .before .before .match .rest .1)) (⊎-elim (λ x. inl (x .taken)) (λ y. inr (⊎-elim (λ x. inl (x .1 .left, x .2 .taken)) (λ x. inr (x .3 .left)) y)) (c .before .before .before .before .if1 .came))
 
 pub met : {M : Type 1} (t : ℕ) → lts.Closed (calls t) (type-of-at t) type-of.Post M
-met t = lts.spec (calls t) (type-of-at t) type-of.Post (λ c κs. omega (arith, (c .before .before .before .before .before .before .pre))) (λ c κs. omega (arith, (c .before .before .before .before .before .before .pre))) (λ c κs. search needs) (λ c κs. search needs) (λ c κs. search needs) (λ c κs. search needs) (λ c κs. search needs) (λ c κs. omega (arith, (c .before .before .before .before .before .before .before .before .pre))) (λ c κs. omega (arith, (c .before .before .before .before .before .before .before .before .pre))) (same-length t) (same-length-2 t) (λ c. search needs) (same-length-3 t) (same-length-4 t) (λ c. search needs) (same-length-5 t) (same-length-6 t) (λ c. search needs) (same-length-7 t) (same-length-8 t) (λ c. search needs) (same-length-9 t) (same-length-10 t) (λ c. search needs) (λ c. search needs) (λ c. search needs) (λ c. search needs) (λ c. search needs) (same-length-13 t) (same-length-14 t) (λ c. search needs) (same-length-15 t) (same-length-16 t) (λ c. search needs)
+met t = lts.spec (calls t) (type-of-at t) type-of.Post (λ c κs. omega (arith, (c .before .before .before .before .before .before .pre))) (λ c κs. omega (arith, (c .before .before .before .before .before .before .pre))) (λ c κs. search needs) (λ c κs. search needs) (λ c κs. search needs) (λ c κs. omega (arith, (c .before .before .before .before .before .before .before .before .pre))) (λ c κs. omega (arith, (c .before .before .before .before .before .before .before .before .before .before .pre))) (λ c κs. search needs) (same-length t) (same-length-2 t) (returns t) (same-length-3 t) (same-length-4 t) (returns-2 t) (same-length-5 t) (same-length-6 t) (returns-3 t) (same-length-7 t) (same-length-8 t) (returns-4 t) (same-length-9 t) (same-length-10 t) (returns-5 t) (same-length-11 t) (same-length-12 t) (returns-6 t) (same-length-13 t) (same-length-14 t) (returns-7 t) (λ c. search needs) (returns-8 t)

@@ -4,6 +4,11 @@ use Prim.Native.Nat.{ℕ}
 use borrow.Author.Needs.{needs}
 use native.Mathlib.Omega.{arith}
 use Prim.Native.Nat.{ℕ}
+use Rattle.walk.proofs.Leading.{tries}
+use Rattle.walk.proofs.Writing.{here-moved, moved}
+use Rattle.types.proofs.Trying.{leads-at}
+use Rattle.types.proofs.Arms.{type-unread, type-deep, type-in}
+use Rattle.types.specs.Typing.{walkOf, faultOf}
 use Rattle.types.proofs.+array+array_with_named_length+element_of+type_of+value_type.Lts-value_type as lts
 use Rattle.types.proofs.+array+array_with_named_length+element_of+type_of+value_type.Proof.Common.{type-of-below, value-type-at}
 use Rattle.tree.proofs.number.below.Reads as below-reads
@@ -14,11 +19,25 @@ use Rattle.types.proofs.value_type.Reads as value-type
 abbrev calls : ℕ → lts.Claims
 calls t = (below-reads.Asked, below-reads.Learnt, moved-reads.Asked, moved-reads.Learnt, type-of-below t, type-of.Post)
 
+returns : (t : ℕ) → lts.Need-returns (calls t) (value-type-at t) value-type.Post
+unfolding walkOf faultOf
+returns t c = λ own l. tries λ j a i. type-unread own (c .before .before .below .ensures) _ (c .enum-told .given .1)
+
+returns-2 : (t : ℕ) → lts.Need-returns-2 (calls t) (value-type-at t) value-type.Post
+unfolding walkOf faultOf
+returns-2 t c = λ own l. tries λ j a i. type-deep own (c .before .before .before .before .below .ensures) _ (c .if1 .taken)
+
 same-length : (t : ℕ) → lts.Need-same-length (calls t) (value-type-at t) value-type.Post
+unfolding walkOf faultOf
 same-length t c = (c .before .before .before .before .type-of .kept .1 .0)
 
 same-length-2 : (t : ℕ) → lts.Need-same-length-2 (calls t) (value-type-at t) value-type.Post
+unfolding walkOf faultOf
 same-length-2 t c = (c .before .before .before .before .type-of .kept .1 .1 .0)
 
+returns-3 : (t : ℕ) → lts.Need-returns-3 (calls t) (value-type-at t) value-type.Post
+unfolding walkOf faultOf
+returns-3 t c = λ own l. tries λ j a i. type-in own (c .before .before .before .before .before .before .before .before .before .before .before .before .below .ensures) _ (c .before .before .before .before .before .before .before .before .if1 .left) (c .before .before .before .before .before .before .before .before .before .before .kind .given .1) (leads-at (here-moved (c .before .before .before .before .before .moved .ensures)) ((c .before .before .before .before .type-of .ensures) own l .does j a (moved i (c .before .before .before .before .before .moved .ensures))))
+
 pub met : {M : Type 1} (t : ℕ) → lts.Closed (calls t) (value-type-at t) value-type.Post M
-met t = lts.spec (calls t) (value-type-at t) value-type.Post (λ c κs. search needs) (λ c. search needs) (λ c. search needs) (λ c. search needs) (λ c. search needs) (λ c κs. search needs) (λ c. search needs) (λ c κs. omega (arith, (c .before .before .before .before .before .before .before .before .before .before .before .pre))) (same-length t) (same-length-2 t) (λ c. search needs)
+met t = lts.spec (calls t) (value-type-at t) value-type.Post (λ c κs. search needs) (λ c. search needs) (λ c. search needs) (returns t) (returns-2 t) (λ c κs. search needs) (λ c. search needs) (λ c κs. omega (arith, (c .before .before .before .before .before .before .before .before .before .before .before .pre))) (same-length t) (same-length-2 t) (returns-3 t)

@@ -3,6 +3,8 @@
 use Prim.Native.Nat.{ℕ}
 use borrow.Author.Needs.{needs}
 use native.Mathlib.Omega.{arith}
+use Prim.Native.Nat.{ℕ}
+use Rattle.walk.proofs.Finding.{type-unread, type-deep, type-array, type-length, type-arraylike, type-name, type-low, type-high}
 use Rattle.walk.proofs.edges.+found_container+found_in_named_length.Lts-found_container as lts
 use Rattle.walk.proofs.edges.+found_container+found_in_named_length.Proof.Common.{found-container-at, found-container-below, found-in-named-length-below}
 use Rattle.tree.proofs.number.below.Reads as below-reads
@@ -13,5 +15,41 @@ use Rattle.walk.proofs.edges.found_named.Reads as found-named-reads
 abbrev calls : ℕ → lts.Claims
 calls t = (below-reads.Asked, below-reads.Learnt, found-container-below t, found-container.Post, found-in-named-length-below t, found-in-named-length.Post, found-named-reads.Asked, found-named-reads.Learnt)
 
+returns : (t : ℕ) → lts.Need-returns (calls t) (found-container-at t) found-container.Post
+returns t c = λ own. type-unread (c .before .before .below .ensures) _ own (c .enum-told .given .1)
+
+returns-2 : (t : ℕ) → lts.Need-returns-2 (calls t) (found-container-at t) found-container.Post
+returns-2 t c = λ own. type-deep (c .before .before .before .before .below .ensures) _ own (c .if1 .taken)
+
+same-length : (t : ℕ) → lts.Need-same-length (calls t) (found-container-at t) found-container.Post
+same-length t c = (c .before .before .found-container .kept .1 .0)
+
+returns-3 : (t : ℕ) → lts.Need-returns-3 (calls t) (found-container-at t) found-container.Post
+returns-3 t c = λ own. type-array (c .before .before .before .before .before .before .before .before .before .below .ensures) _ own (c .before .before .before .before .before .if1 .left) (c .before .before .before .before .before .before .before .kind .given .1) (c .before .before .before .before .match2 .keys1) ((c .before .before .found-container .ensures) own)
+
+same-length-2 : (t : ℕ) → lts.Need-same-length-2 (calls t) (found-container-at t) found-container.Post
+same-length-2 t c = (c .before .before .found-in-named-length .kept .1 .0)
+
+returns-4 : (t : ℕ) → lts.Need-returns-4 (calls t) (found-container-at t) found-container.Post
+returns-4 t c = λ own. type-length (c .before .before .before .before .before .before .before .before .before .below .ensures) _ own (c .before .before .before .before .before .if1 .left) (c .before .before .before .before .before .before .before .kind .given .1) (c .before .before .before .before .match2 .keys2) ((c .before .before .found-in-named-length .ensures) own)
+
+same-length-3 : (t : ℕ) → lts.Need-same-length-3 (calls t) (found-container-at t) found-container.Post
+same-length-3 t c = (c .before .before .found-container2 .kept .1 .0)
+
+returns-5 : (t : ℕ) → lts.Need-returns-5 (calls t) (found-container-at t) found-container.Post
+returns-5 t c = λ own. type-arraylike (c .before .before .before .before .before .before .before .before .before .before .before .below .ensures) _ own (c .before .before .before .before .before .before .before .if1 .left) (c .before .before .before .before .before .before .before .before .before .kind .given .1) (c .before .before .before .before .before .if2 .left) (c .before .before .before .before .before .before .match2 .rest .0 .1) (c .before .before .before .before .before .before .match2 .rest .1) (c .before .before .before .before .if3 .taken) ((c .before .before .found-container2 .ensures) own)
+
+same-length-4 : (t : ℕ) → lts.Need-same-length-4 (calls t) (found-container-at t) found-container.Post
+same-length-4 t c = (c .before .before .found-named .kept .1 .0)
+
+returns-6 : (t : ℕ) → lts.Need-returns-6 (calls t) (found-container-at t) found-container.Post
+returns-6 t c = λ own. type-name (c .before .before .before .before .before .before .before .before .before .before .before .before .below .ensures) _ own (c .before .before .before .before .before .before .before .before .if1 .left) (c .before .before .before .before .before .before .before .before .before .before .kind .given .1) (c .before .before .before .before .before .if3 .left) (c .before .before .before .before .if4 .taken) (c .before .before .found-named .ensures)
+
+returns-7 : (t : ℕ) → lts.Need-returns-7 (calls t) (found-container-at t) found-container.Post
+returns-7 t c = λ own. type-low (c .before .before .before .before .before .before .below .ensures) _ own (c .before .before .if1 .left) (c .before .before .before .before .kind .given .1) (c .if2 .taken)
+
+returns-8 : (t : ℕ) → lts.Need-returns-8 (calls t) (found-container-at t) found-container.Post
+returns-8 t c = λ own. type-high (c .before .before .before .before .before .before .before .before .below .ensures) _ own (c .before .before .before .before .if1 .left) (c .before .before .before .before .before .before .kind .given .1) (c .if4 .left)
+
 pub met : {M : Type 1} (t : ℕ) → lts.Closed (calls t) (found-container-at t) found-container.Post M
-met t = lts.spec (calls t) (found-container-at t) found-container.Post (λ c κs. search needs) (λ c. search needs) (λ c. search needs) (λ c. search needs) (λ c. search needs) (λ c. search needs) (λ c κs. omega (arith, (c .before .before .before .before .before .before .before .before .before .pre))) (λ c. search needs) (λ c κs. omega (arith, (c .before .before .before .before .before .before .before .before .before .pre))) (λ c. search needs) (λ c κs. omega (arith, (c .before .before .before .before .before .before .before .before .before .before .before .pre))) (λ c κs. search needs) (λ c. search needs) (λ c. search needs) (λ c. search needs) (λ c. search needs) (λ c. search needs) (λ c. search needs) (λ c. search needs) (λ c. search needs) (λ c. search needs) (λ c. search needs)
+met t = lts.spec (calls t) (found-container-at t) found-container.Post (λ c κs. search needs) (λ c. search needs) (λ c. search needs) (returns t) (returns-2 t) (λ c. search needs) (λ c κs. omega (arith, (c .before .before .before .before .before .before .before .before .before .pre))) (λ c. search needs) (λ c κs. omega (arith, (c .before .before .before .before .before .before .before .before .before .pre))) (λ c. search needs) (λ c κs. omega (arith, (c .before .before .before .before .before .before .before .before .before .before .before .pre))) (λ c κs. search needs) (same-length t) (returns-3 t) (same-length-2 t) (returns-4 t) (same-length-3 t) (returns-5 t) (same-length-4 t) (returns-6 t) (returns-7 t) (returns-8 t)

@@ -3,6 +3,9 @@
 use Prim.Native.Nat.{ℕ}
 use borrow.Author.Needs.{needs}
 use native.Mathlib.Omega.{arith}
+use mathlib.Core.Path.{_∙_}
+use Prim.Native.Nat.{ℕ}
+use Rattle.walk.proofs.Finding.{length-bad, length-unread, length-fine, wider-own}
 use Rattle.walk.proofs.edges.+found_container+found_in_named_length.Lts-found_in_named_length as lts
 use Rattle.walk.proofs.edges.+found_container+found_in_named_length.Proof.Common.{found-container-below, found-in-named-length-at}
 use Rattle.walk.proofs.edges.found_container.Reads as found-container
@@ -13,5 +16,20 @@ use Rattle.tree.proofs.value_type.value_type.Reads as value-type-reads
 abbrev calls : ℕ → lts.Claims
 calls t = (found-container-below t, found-container.Post, value-type-reads.Asked, value-type-reads.Learnt, found-named-reads.Asked, found-named-reads.Learnt)
 
+returns : (t : ℕ) → lts.Need-returns (calls t) (found-in-named-length-at t) found-in-named-length.Post
+returns t c = λ own. length-bad ((c .before .before .before .before .found-container .ensures) own) (c .enum-told2 .given .1)
+
+same-length-2 : (t : ℕ) → lts.Need-same-length-2 (calls t) (found-in-named-length-at t) found-in-named-length.Post
+same-length-2 t c = (c .before .before .before .before .before .before .before .found-container .kept .1 .0)
+
+returns-2 : (t : ℕ) → lts.Need-returns-2 (calls t) (found-in-named-length-at t) found-in-named-length.Post
+returns-2 t c = λ own. length-unread ((c .before .before .before .before .before .before .before .found-container .ensures) own) _ (wider-own _ _ own) (c .before .before .value-type .ensures) (c .enum-told3 .given .1)
+
+same-length-3 : (t : ℕ) → lts.Need-same-length-3 (calls t) (found-in-named-length-at t) found-in-named-length.Post
+same-length-3 t c = (c .before .before .found-named .kept .1 .0) ∙ (c .before .before .before .before .before .before .before .before .before .before .before .before .found-container .kept .1 .0)
+
+returns-3 : (t : ℕ) → lts.Need-returns-3 (calls t) (found-in-named-length-at t) found-in-named-length.Post
+returns-3 t c = λ own. length-fine ((c .before .before .before .before .before .before .before .before .before .before .before .before .found-container .ensures) own) _ (wider-own _ _ own) (c .before .before .before .before .before .before .before .before .enum-told .given .1) (c .before .before .before .before .before .before .before .value-type .ensures) (c .before .before .before .before .before .end .given .1) (c .before .before .found-named .ensures)
+
 pub met : {M : Type 1} (t : ℕ) → lts.Closed (calls t) (found-in-named-length-at t) found-in-named-length.Post M
-met t = lts.spec (calls t) (found-in-named-length-at t) found-in-named-length.Post (λ c κs. omega (arith, (c .before .before .before .pre))) (λ c. search needs) (λ c. search needs) (λ c. search needs) (λ c. search needs) (λ c κs. search needs) (λ c. search needs) (λ c. search needs) (λ c. search needs) (λ c. search needs) (λ c κs. search needs) (λ c. search needs) (λ c. search needs)
+met t = lts.spec (calls t) (found-in-named-length-at t) found-in-named-length.Post (λ c κs. omega (arith, (c .before .before .before .pre))) (λ c. search needs) (λ c. search needs) (λ c. search needs) (returns t) (λ c κs. search needs) (λ c. search needs) (λ c. search needs) (same-length-2 t) (returns-2 t) (λ c κs. search needs) (same-length-3 t) (returns-3 t)

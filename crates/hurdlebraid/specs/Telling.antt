@@ -1,0 +1,35 @@
+-- What the calls of the C interface leave behind.
+use Prim.Native.Nat.{ℕ}
+use mathlib.Core.Bool.{true, false}
+use mathlib.Core.List.{List, [], _∷_, _++_}
+use lib.Dec.{ltb}
+use lib.ListN.{getD, take, replicate}
+use Rattle.penne.specs.Scoper.{Asked, told, untold}
+
+-- a refusal's number (0: none) and place, then two values
+pub record Told : Type 0 where
+  pub number : ℕ
+  pub place : ℕ
+  pub first : ℕ
+  pub second : ℕ
+
+abbrev pub theWords : Told → List ℕ
+theWords t = t .number ∷ t .place ∷ t .first ∷ t .second ∷ []
+
+-- one of them, 0 behind the last
+unfoldable pub wordOf : Told → (i : ℕ) → ℕ
+wordOf t i = getD (theWords t) i 0
+
+-- as many of these words as were lent room for, and zeros behind them
+unfoldable pub toldWords : (room : ℕ) → Told → List ℕ
+toldWords room t = take room (theWords t ++ replicate room 0)
+
+-- of get_container_depth, asked with the largest maximum: the depth and 1, or the given maximum and 0
+unfoldable pub depthTold : (max : ℕ) → Asked ℕ → Told
+depthTold max (told d) = elim (ltb d 4294967295) [ true ↦ record { number = 0; place = 0; first = d; second = 1 } | false ↦ record { number = 0; place = 0; first = max; second = 0 } ]
+depthTold max (untold n p) = record { number = n; place = p; first = 0; second = 0 }
+
+-- of get_structure_name: where the name begins, and its length
+unfoldable pub nameTold : Asked (ℕ × ℕ) → Told
+nameTold (told x) = record { number = 0; place = 0; first = x .0; second = x .1 }
+nameTold (untold n p) = record { number = n; place = p; first = 0; second = 0 }

@@ -1,0 +1,96 @@
+-- Function bodies: statements and value in a scope of their own, then the body's own name.
+use mathlib.Core.Path.{_≡_, refl, sym, ap, subst, _∙_}
+use mathlib.Core.List.{List, _++_, append-assoc}
+use mathlib.Core.Option.{Option}
+use Prim.Native.Nat.{ℕ}
+use native.Mathlib.Omega.{arith}
+use Rattle.penne.specs.Reader.{_>>=_, ret, below, listed}
+use Rattle.penne.specs.Find.{resolved}
+use Rattle.penne.specs.Tree.{Spot, Ident, Poison, ok, err, expr, Expr, stmt, Stm, Body}
+use Rattle.penne.specs.Read.{ident, maybe, option, readPoison, read, toStms, readStmt, readBody}
+use Rattle.penne.specs.Write.{numB, identB, maybeB, optionB, nodeB, bodyB}
+use Rattle.penne.specs.State as S
+use Rattle.penne.specs.Scopes.{inNewScope, withStack, nextId, createAnonymousResolutionId}
+use Rattle.penne.specs.Scopes as Q
+use Rattle.penne.specs.Variables.{analyzeNode, analyzeOption, analyzeInBody, analyzeBody}
+use Rattle.penne.proofs.IdsPass.{still-option}
+use Rattle.tree.specs.declared.number.Read.{Read}
+use Rattle.tree.specs.declared.number.Read.the-variants.{Number, Refused}
+use Rattle.tree.specs.declared.field.Identifier.{Identifier}
+use Rattle.tree.specs.declared.field.Identified.{Identified}
+use Rattle.tree.specs.declared.field.Identified.the-variants as I
+use Rattle.tree.specs.Answers.{cursor, countsOf, identOf, identifiedOf, Gives, Identifies}
+use Rattle.answer.specs.declared.wrote.Wrote.{Wrote}
+use Rattle.answer.specs.Out.{Put}
+use Rattle.answer.specs.Parts.{identifierB}
+use Rattle.answer.proofs.Fields.{identifier-bytes}
+use Rattle.label_references.specs.Marked.{markedBody}
+use Rattle.walk.specs.declared.state.Walk.{Walk}
+use Rattle.walk.specs.Walking.{Moves, Writes, Ground, Good, Is, onward, say, sayPoison, Walks, Opens, Closes, Numbers, Grows, opening, closing, numbering, okB}
+use Rattle.walk.proofs.Leading.{walks, leads-refused, leads-call, leads-end, is-same}
+use Rattle.walk.proofs.Writing.{moved, here-moved}
+use Rattle.walk.proofs.Choosing.{leads-unmaybe, leads-ok, leads-err}
+use Rattle.types.proofs.Trying.{leads-at}
+use Rattle.expressions.proofs.Onward.{out-same, on, leads-moved, leads-on}
+use Rattle.statements.specs.Stating.{isFree, fitsBody, stmWalk, stmsWalk, stmsB, bodyWalk, bodyOkWalk, nameBody}
+use Rattle.statements.proofs.Fit.{ground-same, leaving-same}
+use Rattle.statements.proofs.Nesting.{grows-stms, good-stms}
+use Rattle.statements.proofs.Declaring.{leads-just}
+
+-- THE BODY'S NAME
+
+name-is : (j : Identifier) (from id : ℕ) (a : Ground) → id ≡ a .st .resolutionId → numbering (say (identifierB (j .name) (j .place) id 0) a) ≡ onward nameBody identB (identOf from j) a
+unfolding nameBody resolved
+name-is j from id a e = out-same (ap (λ (n : ℕ). a .out ++ identifierB (j .name) (j .place) n 0) e ∙ ap (λ (ys : List ℕ). a .out ++ ys) (identifier-bytes (resolved (identOf from j) (a .st .resolutionId) 0)))
+
+module _ {t : List ℕ} {s : Walk} {r₁ : Identified} (g : Identifies t (s .script .names) (s .at) r₁) {o l w : List ℕ} where
+  pub name-not : {i p : ℕ} {r : Walk} {o′ l′ w′ : List ℕ} → r₁ ≡ I.Not i p → Walks t ident (onward nameBody identB) s o l w r o′ l′ w′
+  unfolding identifiedOf
+  name-not e = walks λ h a i. leads-refused (sym (g .is _) ∙ ap (identifiedOf (s .script .names) (s .at) (countsOf (s .counts))) e)
+
+  pub body-named : {j : Identifier} {n : ℕ} {x : Wrote} {s₁ s₂ r : Walk} {o′ : List ℕ} → r₁ ≡ I.Is j n → Put (s .wrote) (identifierB (j .name) (j .place) (s .tables .«next_id») 0) o x o′ → Writes s x s₁ → Moves s₁ n s₂ → Numbers s₂ r → Walks t ident (onward nameBody identB) s o l w r o′ l w
+  unfolding identifiedOf nameBody nextId
+  body-named {j} {n} e put wr mv nb = walks λ h a i. leads-just (sym (g .is _) ∙ ap (identifiedOf (s .script .names) (s .at) (countsOf (s .counts))) e) (record {
+    cur = sym (nb .cur ∙ here-moved mv ∙ ap (λ (y : Walk). cursor n (y .script .names) (countsOf (y .counts))) (wr .is));
+    is = is-same (λ z. name-is j (s .at) (s .tables .«next_id») a (i .when (record { few = omega (arith, z .few); fit = z .fit }) .tables .next)) (nb .is (on i put wr mv));
+  })
+
+-- THE BODY
+
+body-is : (ts : List (Stm Spot stmt)) (v : Option (Expr Spot)) (x : Ident Spot) (a : Ground)
+    → onward nameBody identB x (closing a (onward (analyzeOption analyzeNode) (optionB nodeB) v (stmsWalk ts (opening a)))) ≡ bodyOkWalk (record { statements = toStms ts; value = v; result = x }) a
+unfolding bodyOkWalk markedBody fitsBody okB bodyB analyzeBody analyzeInBody inNewScope createAnonymousResolutionId withStack stmWalk stmsB nameBody isFree S._>>=_ S.ret
+body-is ts v x a = out-same (simp append-assoc)
+
+grows-body : (ts : List (Stm Spot stmt)) (v : Option (Expr Spot)) (a : Ground) → Grows (a .st .variableStack) (onward (analyzeOption analyzeNode) (optionB nodeB) v (stmsWalk ts (opening a)) .st .variableStack)
+grows-body ts v a = subst (λ (u : Q.Scope Spot). Grows (a .st .variableStack) u) (sym (still-option v (stmsWalk ts (opening a) .st) .stack)) (grows-stms ts a)
+
+good-body : (ts : List (Stm Spot stmt)) (v : Option (Expr Spot)) (a : Ground) → Good (onward (analyzeOption analyzeNode) (optionB nodeB) v (stmsWalk ts (opening a))) → Good a
+good-body ts v a z = good-stms ts a (record { few = omega (arith, z .few, still-option v (stmsWalk ts (opening a) .st) .takes .lower); fit = z .fit })
+
+pub bodied : {t : List ℕ} {s s₁ s₂ s₃ s₄ : Walk} {o l w o₁ l₁ w₁ o₂ l₂ w₂ w₃ : List ℕ} {r : Walk} {o′ : List ℕ} → Opens s s₁ → Walks t (listed (readStmt 63)) stmsWalk s₁ o l w s₂ o₁ l₁ w₁
+    → Walks t (option (read 63 expr)) (onward (analyzeOption analyzeNode) (optionB nodeB)) s₂ o₁ l₁ w₁ s₃ o₂ l₂ w₂ → Closes s₃ s w₂ s₄ w₃ → Walks t ident (onward nameBody identB) s₄ o₂ l₂ w₃ r o′ l₂ w₃ → Walks t (readBody 63) bodyOkWalk s o l w r o′ l₂ w₃
+unfolding readBody
+bodied op k₁ k₂ cl k₃ = walks λ h a i. leads-at (op .cur) (leads-call _ k₁ h (op .is i) λ ts j₁ i₁. leads-call _ k₂ h i₁ λ v j₂ i₂. leads-at (cl .cur) (leads-call _ k₃ h (cl .is i i₂ (grows-body ts v a) (good-body ts v a)) λ x j₃ i₃.
+    leads-end (record { statements = toStms ts; value = v; result = x }) refl i₃ λ _. body-is ts v x a))
+
+-- A BODY THAT MAY BE POISON
+
+poison-body : (z : Poison Spot) (a : Ground) → sayPoison 1 z a ≡ bodyWalk (err z) a
+unfolding bodyWalk markedBody fitsBody analyzeBody maybeB S.ret
+poison-body z a = ground-same refl (leaving-same (a .rest))
+
+ok-body : (b : Body Spot) (a : Ground) → bodyOkWalk b (say (numB 0) a) ≡ bodyWalk (ok b) a
+unfolding bodyWalk bodyOkWalk markedBody analyzeBody analyzeInBody inNewScope createAnonymousResolutionId okB maybeB S._>>=_ S.ret
+ok-body b a = out-same (append-assoc (a .out) _ _)
+
+module _ {t : List ℕ} {s : Walk} {m₁ : Read} (g : Gives (below 2) t (s .at) m₁) {o l w : List ℕ} {r : Walk} {o′ l′ w′ : List ℕ} where
+  pub maybe-not : {i p : ℕ} → m₁ ≡ Refused i p → Walks t (maybe (readBody 63)) bodyWalk s o l w r o′ l′ w′
+  maybe-not e = walks λ h a i. leads-unmaybe g _ e
+
+  module _ {v n : ℕ} (e : m₁ ≡ Number v n) where
+    pub maybe-poison : {s₁ : Walk} → (v ≡ 0 → ⊥) → Moves s n s₁ → Walks t readPoison (sayPoison 1) s₁ o l w r o′ l′ w′ → Walks t (maybe (readBody 63)) bodyWalk s o l w r o′ l′ w′
+    maybe-poison z mv k = walks λ h a i. leads-err g _ e z (leads-moved mv (leads-call _ k h (moved i mv) λ y j i₁. leads-end (err y) refl i₁ λ _. poison-body y a))
+
+    pub maybe-ok : {x : Wrote} {s₁ s₂ : Walk} {o₁ : List ℕ} → v ≡ 0 → Put (s .wrote) (numB 0) o x o₁ → Writes s x s₁ → Moves s₁ n s₂ → Walks t (readBody 63) bodyOkWalk s₂ o₁ l w r o′ l′ w′ → Walks t (maybe (readBody 63)) bodyWalk s o l w r o′ l′ w′
+    maybe-ok z put wr mv k = walks λ h a i. leads-ok g _ e z (leads-on wr mv (leads-call _ k h (on i put wr mv) λ y j i₁. leads-end (ok y) refl i₁ λ _. ok-body y a))

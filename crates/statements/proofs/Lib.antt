@@ -1,0 +1,9 @@
+pub mod Free
+pub mod Fit
+pub mod Counted
+pub mod Arms
+pub mod Nesting
+pub mod Declaring
+pub mod Jumps
+pub mod Bodies
+pub mod Fitting

@@ -1,0 +1,5 @@
+pub mod Trying
+pub mod Arms
+pub mod Rows
+pub mod Maybes
+pub mod Contained

@@ -1,0 +1,90 @@
+-- An edge is handed over: by what found_container_1 answered.
+use mathlib.Core.Path.{_≡_, refl, sym, ap, subst, _∙_}
+use mathlib.Core.Bool.{Bool, true, false, not}
+use mathlib.Core.List.{List}
+use mathlib.Core.Option.{Option}
+use Prim.Native.Nat.{ℕ, _<_}
+use native.Mathlib.Omega.{arith}
+use borrow.Rule.Slice.PartMut.{putMid}
+use Rattle.penne.specs.Tree.{Spot, Ident, Maybe, Ty}
+use Rattle.penne.specs.Variables.{analyzeWellfoundedness}
+use Rattle.penne.specs.Containers.{idOf, foundContainer1}
+use Rattle.penne.specs.Scopes.{Analyzer, withContainment}
+use Rattle.tree.specs.declared.counts.Counts as K
+use Rattle.containers.specs.declared.containers.Contained.{Contained}
+use Rattle.containers.specs.declared.containers.Contained.the-variants as T
+use Rattle.containers.specs.Table.{at, idAt}
+use Rattle.containers.specs.Calls.{answerOf, Follows, FollowsRows}
+use Rattle.containers.proofs.Starting.{found-kept}
+use Rattle.walk.specs.declared.state.Script.{Script}
+use Rattle.walk.specs.declared.state.Tables as W
+use Rattle.walk.specs.declared.fault.Fault.{Fault}
+use Rattle.walk.specs.declared.edges.Holder.{Holder}
+use Rattle.walk.specs.declared.edges.Edge.{Edge}
+use Rattle.walk.specs.declared.edges.Edge.the-variants as E
+use Rattle.walk.specs.Walking.{containersIn, Tables, poisonedFault}
+use Rattle.walk.specs.declared.edges.Holding.the-variants as H
+use Rattle.walk.specs.Calls.{Member, Edged, fine, bad, EdgeTo, Cyclical, Stays, stays, goes, heldBy, Decides}
+use Rattle.walk.proofs.Tables.{containers-changed, lower-containers}
+use Rattle.walk.proofs.Faults.{poisoned-bytes}
+
+module _ {k : Script} (h : Holder) {n : ℕ} {w : List ℕ} {r : Contained} {ys : List ℕ} (f : FollowsRows (k .containers) (h .row) n (containersIn w) r ys) where
+  follows : {t : W.Tables} {e : K.Counts} {a : Analyzer Spot} → Tables t k e w a → h .row < k .containers → n < k .containers → (m : Option (Ident Spot)) (c x : Ident Spot) → (at (a .containment .containers) (h .row)) .identifier ≡ c → x .id ≡ idAt (a .containment .containers) n
+      → Follows (k .containers) c m x (a .containment) r ys
+  unfolding idAt idOf
+  follows {a = a} t low low′ m c x q z = f .follows (a .containment) (t .containers) low low′ c x (sym (ap (λ (i : Ident Spot). i .id) q)) z m
+
+  edge-by : {u : Edge} → ((t : W.Tables) (e : K.Counts) (a : Analyzer Spot) (m : Option (Ident Spot)) (c x : Ident Spot) → Tables t k e (putMid 13312 1668 w ys) (withContainment a (foundContainer1 c m x (a .containment) .1)) → h .row < k .containers → Member h m
+      → (at (foundContainer1 c m x (a .containment) .1 .containers) (h .row)) .identifier ≡ c → answerOf r c m x (foundContainer1 c m x (a .containment) .1 .containers) ≡ foundContainer1 c m x (a .containment) .0 → Edged x u (foundContainer1 c m x (a .containment) .0))
+      → EdgeTo k h n w u (putMid 13312 1668 w ys)
+  edge-by say = record {
+    does = λ {t} {e} {a} b low low′ {m} mem c x q z.
+        let v = follows b low low′ m c x q z in
+        let count = b .containers .counted in
+        let b′ = containers-changed b c m x (f .long ∙ b .containers .long) (v .holds) in
+        (b′, lower-containers w ys (b .long) (f .long ∙ b .containers .long), say t e a m c x b′ low mem (found-kept c m x (a .containment) .same (h .row) (omega arith) ∙ q) (v .answer));
+  }
+
+  pub edge-to-fine : r ≡ T.Fine → EdgeTo k h n w E.Fine (putMid 13312 1668 w ys)
+  unfolding answerOf
+  edge-to-fine e = edge-by λ t₁ e₁ a m c x b low mem q z. subst (λ (y : Maybe Spot (Ident Spot)). Edged x E.Fine y) (sym (ap (λ (v : Contained). answerOf v c m x (foundContainer1 c m x (a .containment) .1 .containers)) e) ∙ z) fine
+
+  pub edge-to-poisoned : r ≡ T.Poisoned → EdgeTo k h n w (E.Bad poisonedFault) (putMid 13312 1668 w ys)
+  unfolding answerOf
+  edge-to-poisoned e = edge-by λ t₁ e₁ a m c x b low mem q z. subst (λ (y : Maybe Spot (Ident Spot)). Edged x (E.Bad poisonedFault) y) (sym (ap (λ (v : Contained). answerOf v c m x (foundContainer1 c m x (a .containment) .1 .containers)) e) ∙ z) (bad poisoned-bytes)
+
+  pub edge-to-cyclical : {g : Fault} → r ≡ T.Cyclical → Cyclical k h (putMid 13312 1668 w ys) g → EdgeTo k h n w (E.Bad g) (putMid 13312 1668 w ys)
+  unfolding answerOf withContainment
+  edge-to-cyclical {g} e j = edge-by λ t₁ e₁ a m c x b low mem q z.
+      subst (λ (y : Maybe Spot (Ident Spot)). Edged x (E.Bad g) y) (sym (ap (λ (v : Contained). answerOf v c m x (foundContainer1 c m x (a .containment) .1 .containers)) e) ∙ z) (bad (j .tells b low mem c q))
+
+pub edge-told : {k : Script} {h : Holder} {n : ℕ} {w w′ : List ℕ} {f g : Fault} → f ≡ g → EdgeTo k h n w (E.Bad g) w′ → EdgeTo k h n w (E.Bad f) w′
+edge-told {k} {h} {n} {w} {w′} e j = subst (λ (x : Fault). EdgeTo k h n w (E.Bad x) w′) (sym e) j
+
+-- MEMBERS
+
+goes-holds : (c : Ident Spot) (t : Maybe Spot (Ty Spot)) {i : Ident Spot} {m : Maybe Spot (Ident Spot)} {named : Bool} → Stays i named m → named ≡ false → heldBy H.Nobody c i t ≡ analyzeWellfoundedness c m t
+unfolding heldBy analyzeWellfoundedness
+goes-holds c t goes e = refl
+goes-holds c t stays e = absurd (let z : _≡_ {A = ℕ} 0 1 = cc in omega arith)
+
+stays-holds : (h : Holder) (c : Ident Spot) (t : Maybe Spot (Ty Spot)) {i : Ident Spot} {m : Maybe Spot (Ident Spot)} {named : Bool} → Stays i named m → named ≡ true → heldBy (H.By h) c i t ≡ analyzeWellfoundedness c m t
+unfolding heldBy analyzeWellfoundedness
+stays-holds h c t stays e = refl
+stays-holds h c t goes e = absurd (let z : _≡_ {A = ℕ} 0 1 = cc in omega arith)
+
+pub not-true : (b : Bool) → not b ≡ true → b ≡ false
+not-true true e = sym e
+not-true false e = refl
+
+pub not-false : (b : Bool) → not b ≡ false → b ≡ true
+not-false true e = refl
+not-false false e = sym e
+
+-- one whose name was refused
+pub decides-nobody : (named : Bool) {row place : ℕ} → named ≡ false → Decides named row place H.Nobody
+decides-nobody named e = record { holder = λ h q. absurd (let z : _≡_ {A = ℕ} 0 1 = cc in omega arith); edges = λ c i m k t. goes-holds c t k e }
+
+-- one that has its name
+pub decides-by : (named : Bool) {row place : ℕ} → named ≡ true → Decides named row place (H.By (record { row = row; «is_member» = true; member = place }))
+decides-by named e = record { holder = λ h q. cc; edges = λ c i m k t. stays-holds _ c t k e }
