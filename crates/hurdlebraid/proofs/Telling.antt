@@ -8,14 +8,17 @@ use lib.Dec.{ltb}
 use lib.ListN.{length, getD, take, set, length-set, replicate, length-append, length-replicate}
 use lib.Seq.{getD-take, length-take-le, getD-set-same, getD-set-other, ext-getD}
 use borrow.Author.Tests.{ltb-true, ltb-false, lt-ltb, le-ltb}
-use Rattle.penne.specs.Scoper.{Asked, told, untold}
+use Rattle.penne.specs.Scoper.{Asked, told, untold, Outcome}
+use Rattle.scoper.specs.declared.Scoped.{Scoped}
+use Rattle.scoper.specs.declared.Scoped.the-variants as S
+use Rattle.scoper.specs.Scoping.{outcomeOf, Scopes}
 use Rattle.scoper.specs.declared.Depth.{Depth}
 use Rattle.scoper.specs.declared.Depth.the-variants as D
 use Rattle.scoper.specs.declared.Named.{Named}
 use Rattle.scoper.specs.declared.Named.the-variants as N
 use Rattle.scoper.specs.Asking.{depthAsked}
 use Rattle.scoper.specs.Naming.{nameAsked}
-use Rattle.hurdlebraid.specs.Telling.{Told, theWords, wordOf, toldWords, depthTold, nameTold}
+use Rattle.hurdlebraid.specs.Telling.{Told, theWords, wordOf, toldWords, scopedTold, Analyzes, depthTold, nameTold}
 
 -- WORD BY WORD
 
@@ -102,3 +105,34 @@ module _ {a : Asked (ℕ × ℕ)} {r : Named} (e : nameAsked r ≡ a) where
 -- what is told, said otherwise
 pub told-as : (room : ℕ) {u : List ℕ} {t t′ : Told} → u ≡ toldWords room t → t ≡ t′ → u ≡ toldWords room t′
 told-as room p q = p ∙ ap (toldWords room) q
+
+-- THE SCOPING CALL
+
+module _ (r : Scoped) (o l w : List ℕ) where
+  tree-is : (outcomeOf r o l w) .tree ≡ o
+  unfolding outcomeOf
+  tree-is = elim r as (λ x. (outcomeOf x o l w) .tree ≡ o) [ S.Answer n k ↦ refl | S.Refused n p ↦ refl ]
+
+  list-is : (outcomeOf r o l w) .list ≡ l
+  unfolding outcomeOf
+  list-is = elim r as (λ x. (outcomeOf x o l w) .list ≡ l) [ S.Answer n k ↦ refl | S.Refused n p ↦ refl ]
+
+  work-is : (outcomeOf r o l w) .work ≡ w
+  unfolding outcomeOf
+  work-is = elim r as (λ x. (outcomeOf x o l w) .work ≡ w) [ S.Answer n k ↦ refl | S.Refused n p ↦ refl ]
+
+  pub told-answer : {n k : ℕ} → r ≡ S.Answer n k → record { number = 0; place = 0; first = n; second = k } ≡ scopedTold (outcomeOf r o l w)
+  unfolding outcomeOf scopedTold
+  told-answer e = ap (λ (x : Scoped). scopedTold (outcomeOf x o l w)) (sym e)
+
+  pub told-refused : {n p : ℕ} → r ≡ S.Refused n p → record { number = n; place = p; first = 0; second = 0 } ≡ scopedTold (outcomeOf r o l w)
+  unfolding outcomeOf scopedTold
+  told-refused e = ap (λ (x : Scoped). scopedTold (outcomeOf x o l w)) (sym e)
+
+pub analyzes : {t o l w u : List ℕ} {r : Scoped} {o′ l′ w′ u′ : List ℕ} → Scopes t o l w r o′ l′ w′ → u′ ≡ toldWords (length u) (scopedTold (outcomeOf r o′ l′ w′)) → Analyzes t o l w u o′ l′ w′ u′
+analyzes {u = u} {r} {o′} {l′} {w′} k e = record {
+  tree = sym (tree-is r o′ l′ w′) ∙ ap (λ (q : Outcome). q .tree) (k .outcome);
+  list = sym (list-is r o′ l′ w′) ∙ ap (λ (q : Outcome). q .list) (k .outcome);
+  work = sym (work-is r o′ l′ w′) ∙ ap (λ (q : Outcome). q .work) (k .outcome);
+  tells = e ∙ ap (λ (q : Outcome). toldWords (length u) (scopedTold q)) (k .outcome);
+}

@@ -1,10 +1,11 @@
 -- What the calls of the C interface leave behind.
 use Prim.Native.Nat.{ℕ}
+use mathlib.Core.Path.{_≡_}
 use mathlib.Core.Bool.{true, false}
 use mathlib.Core.List.{List, [], _∷_, _++_}
 use lib.Dec.{ltb}
-use lib.ListN.{getD, take, replicate}
-use Rattle.penne.specs.Scoper.{Asked, told, untold}
+use lib.ListN.{length, getD, take, replicate}
+use Rattle.penne.specs.Scoper.{Asked, told, untold, Outcome, scoped}
 
 -- a refusal's number (0: none) and place, then two values
 pub record Told : Type 0 where
@@ -23,6 +24,17 @@ wordOf t i = getD (theWords t) i 0
 -- as many of these words as were lent room for, and zeros behind them
 unfoldable pub toldWords : (room : ℕ) → Told → List ℕ
 toldWords room t = take room (theWords t ++ replicate room 0)
+
+-- of the scoping call: the answer's length in bytes, the list's in records
+unfoldable pub scopedTold : Outcome → Told
+scopedTold q = record { number = q .refusal; place = q .place; first = q .treeLength; second = q .records }
+
+-- hurdlebraid_analyze: all that is lent holds what the definition says
+pub record Analyzes (t o l w u : List ℕ) (o′ l′ w′ u′ : List ℕ) : Type 0 where
+  pub tree : o′ ≡ (scoped t (length o) (length l) (length w)) .tree
+  pub list : l′ ≡ (scoped t (length o) (length l) (length w)) .list
+  pub work : w′ ≡ (scoped t (length o) (length l) (length w)) .work
+  pub tells : u′ ≡ toldWords (length u) (scopedTold (scoped t (length o) (length l) (length w)))
 
 -- of get_container_depth, asked with the largest maximum: the depth and 1, or the given maximum and 0
 unfoldable pub depthTold : (max : ℕ) → Asked ℕ → Told

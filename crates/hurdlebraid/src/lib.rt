@@ -8,7 +8,7 @@ use scoper::structure_name_at;
 ghost use mathlib.Core.Path.{_≡_};
 ghost use lib.ListN.{length};
 ghost use Rattle.penne.specs.Scoper.{getContainerDepth, getStructureName};
-ghost use Rattle.hurdlebraid.specs.Telling.{Told, toldWords, depthTold, nameTold, wordOf};
+ghost use Rattle.hurdlebraid.specs.Telling.{Told, toldWords, Analyzes, depthTold, nameTold, wordOf};
 
 // The values: the answer's length in bytes, the list's in records.
 #[no_mangle]
@@ -18,7 +18,9 @@ pub extern "C" fn hurdlebraid_analyze(
     list: &mut [u32],
     work: &mut [u32],
     outcome: &mut [u64],
-) {
+)
+    ensures { λ _. ⌜ Analyzes (now (tree .entry)) (now (answer .entry)) (now (list .entry)) (now (work .entry)) (now (outcome .entry)) (now (answer .exit)) (now (list .exit)) (now (work .exit)) (now (outcome .exit)) ⌝ }
+{
     let scoped = analyze(tree, answer, list, work);
     match scoped {
         Scoped::Answer(length, records) => {

@@ -10,8 +10,8 @@ use memory::bytes::clear_bytes;
 use memory::bytes::clear_bytes_from;
 use memory::words::clear_words;
 use memory::words::clear_words_from;
+use passes::Ended;
 use passes::scope;
-use passes::words_of;
 use tree::answered_layout;
 use tree::name_table::bytes_at;
 use tree::number::Read;
@@ -19,6 +19,7 @@ use tree::number::number;
 use tree::script::Laid;
 ghost use mathlib.Core.Path.{_≡_};
 ghost use Rattle.penne.specs.Scoper.{depthOr, getContainerDepth, isContainer, getStructureName};
+ghost use Rattle.scoper.specs.Scoping.{Scopes};
 ghost use Rattle.scoper.specs.Asking.{depthAsked, containerAsked, unaskedBy, NthDepth};
 ghost use Rattle.scoper.specs.Naming.{nameAsked, unnamedBy, partTold};
 
@@ -45,20 +46,23 @@ pub enum Named {
 }
 
 // Both passes, from the bytes of a tree to the bytes of the scoped tree and its skip list. What was lent holds zeros behind the lengths told, and nothing else after a refusal; the work words hold zeros.
-pub fn analyze(tree: &[u8], answer: &mut [u8], list: &mut [u32], work: &mut [u32]) -> Scoped {
-    let scoped = scope(tree, answer, list, work);
+pub fn analyze(tree: &[u8], answer: &mut [u8], list: &mut [u32], work: &mut [u32]) -> Scoped
+    ensures { λ r. ⌜ Scopes (now (tree .entry)) (now (answer .entry)) (now (list .entry)) (now (work .entry)) r (now (answer .exit)) (now (list .exit)) (now (work .exit)) ⌝ }
+{
+    let ended = scope(tree, answer, list, work);
     clear_words(work);
-    match scoped {
-        Scoped::Answer(length, records) => {
-            clear_bytes_from(answer, length);
-            clear_words_from(list, words_of(records));
+    match ended {
+        Ended::Written(bytes, words) => {
+            clear_bytes_from(answer, bytes);
+            clear_words_from(list, words);
+            Scoped::Answer(bytes, words / 2)
         }
-        Scoped::Refused(_, _) => {
+        Ended::Refused(number, place) => {
             clear_bytes(answer);
             clear_words(list);
+            Scoped::Refused(number, place)
         }
     }
-    scoped
 }
 
 // The depth of a constant or structure, or `max` where it has none.

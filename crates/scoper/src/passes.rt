@@ -1,5 +1,4 @@
 // Both passes over a tree that the reader let pass.
-use super::Scoped;
 use answer::wrote::Wrote;
 use label_references::label_references;
 use memory::layout::WORDS;
@@ -9,37 +8,37 @@ use tree::script::Laid;
 use tree::script::Layout;
 use variable_references::script::Answered;
 use variable_references::script::variable_references;
+ghost use mathlib.Core.Path.{_≡_};
+ghost use lib.ListN.{length};
+ghost use Rattle.penne.specs.Scoper.{scopedAnswer};
+ghost use Rattle.scoper.specs.Scoping.{Ending, Passes, roomed};
 
-// "A record is two words".
-pub fn words_of(records: usize) -> usize {
-    if records < 4294967296 {
-        return records * 2;
-    }
-    18446744073709551615
+// How many bytes of the answer and words of the list were written, or a refusal's number and place.
+pub enum Ended {
+    Written(usize, usize),
+    Refused(u32, usize),
 }
 
 // Rows 1 and 2 come first, then those of the reader.
-pub fn scope(tree: &[u8], answer: &mut [u8], list: &mut [u32], work: &mut [u32]) -> Scoped {
+pub fn scope(tree: &[u8], answer: &mut [u8], list: &mut [u32], work: &mut [u32]) -> Ended
+    ensures { λ r. ⌜ Ending (now (answer .exit)) (now (list .exit)) r (scopedAnswer (now (tree .entry)) (length (now (answer .entry))) (length (now (list .entry))) (length (now (work .entry)))) ⌝ }
+{
     if 65535 < tree.len() {
-        return Scoped::Refused(1, 0);
+        return Ended::Refused(1, 0);
     }
     if work.len() < WORDS {
-        return Scoped::Refused(2, 0);
+        return Ended::Refused(2, 0);
     }
     let laid = incoming_layout(tree);
     match laid {
         Laid::Out(layout) => pass(tree, answer, list, work, layout),
-        Laid::Refused(number, place) => Scoped::Refused(number, place),
+        Laid::Refused(number, place) => Ended::Refused(number, place),
     }
 }
 
-fn pass(
-    tree: &[u8],
-    answer: &mut [u8],
-    list: &mut [u32],
-    work: &mut [u32],
-    layout: Layout,
-) -> Scoped {
+fn pass(tree: &[u8], answer: &mut [u8], list: &mut [u32], work: &mut [u32], layout: Layout) -> Ended
+    ensures { λ r. ⌜ Passes (now (tree .entry)) layout (now (answer .entry)) (now (list .entry)) (now (work .entry)) r (now (answer .exit)) (now (list .exit)) ⌝ }
+{
     clear_words(work);
     label_references(tree, work, layout);
     let answered = variable_references(tree, answer, list, work, layout);
@@ -47,14 +46,16 @@ fn pass(
 }
 
 // Rows 11 and 12.
-fn if_room(answered: Answered) -> Scoped {
+fn if_room(answered: Answered) -> Ended
+    ensures { λ r. ⌜ r ≡ roomed (answered .wrote) (answered .listed) ⌝ }
+{
     let wrote = answered.wrote;
     let listed = answered.listed;
     let Wrote::Bytes(length) = wrote else {
-        return Scoped::Refused(11, 0);
+        return Ended::Refused(11, 0);
     };
     let Wrote::Bytes(words) = listed else {
-        return Scoped::Refused(12, 0);
+        return Ended::Refused(12, 0);
     };
-    Scoped::Answer(length, words / 2)
+    Ended::Written(length, words)
 }

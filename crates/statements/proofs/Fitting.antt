@@ -37,17 +37,17 @@ sits-numbered {all} {id} {i} s =
     let inside = s .inside in
     record { is = λ p. place-at all (id - 1) (omega arith) p i ∙ ap (λ (x : Ident Spot). x .place) (s .is i); low = s .low; high = s .high }
 
-numbered-along : {all is : List (Ident Spot)} {k n : ℕ} → Along (Sits all) k is n → Along (Numbered all) k is n
+pub numbered-along : {all is : List (Ident Spot)} {k n : ℕ} → Along (Sits all) k is n → Along (Numbered all) k is n
 numbered-along stop = stop
 numbered-along (step p a) = step (sits-numbered p) (numbered-along a)
 
 -- a numbered list in two parts
-record Split (P : ℕ → Ident Spot → Type 0) (k : ℕ) (xs ys : List (Ident Spot)) (n : ℕ) : Type 0 where
-  middle : ℕ
-  left : Along P k xs middle
-  right : Along P middle ys n
+pub record Split (P : ℕ → Ident Spot → Type 0) (k : ℕ) (xs ys : List (Ident Spot)) (n : ℕ) : Type 0 where
+  pub middle : ℕ
+  pub left : Along P k xs middle
+  pub right : Along P middle ys n
 
-split : {P : ℕ → Ident Spot → Type 0} {k n : ℕ} (xs ys : List (Ident Spot)) → Along P k (xs ++ ys) n → Split P k xs ys n
+pub split : {P : ℕ → Ident Spot → Type 0} {k n : ℕ} (xs ys : List (Ident Spot)) → Along P k (xs ++ ys) n → Split P k xs ys n
 split {k = k} [] ys a = record { middle = k; left = stop; right = a }
 split (x ∷ xs) ys (step p a) = let s = split xs ys a in record { middle = s .middle; left = step p (s .left); right = s .right }
 
@@ -121,7 +121,7 @@ label-word {all} {js} i id s k = go (firstNamed (i .name) js) refl
 
 -- THE WORDS OF A STATEMENT
 
-assoc : (xs ys zs : List ℕ) → (xs ++ ys) ++ zs ≡ xs ++ (ys ++ zs)
+pub assoc : (xs ys zs : List ℕ) → (xs ++ ys) ++ zs ≡ xs ++ (ys ++ zs)
 assoc [] ys zs = refl
 assoc (x ∷ xs) ys zs = ap (λ (r : List ℕ). x ∷ r) (assoc xs ys zs)
 

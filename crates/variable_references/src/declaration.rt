@@ -41,6 +41,19 @@ use walk::names::function_at;
 use walk::names::in_constexpr_of;
 use walk::names::opened;
 use walk::state::Walk;
+ghost use Prim.Native.Nat.{ℕ, _<_};
+ghost use mathlib.Core.Path.{_≡_};
+ghost use mathlib.Core.Bool.{false, true};
+ghost use mathlib.Core.List.{List, _++_};
+ghost use Rattle.penne.specs.Tree.{Spot, Ident};
+ghost use Rattle.penne.specs.Read.{readDecl, readImport, readParam};
+ghost use Rattle.penne.specs.Write.{placeB, declB};
+ghost use Rattle.answer.specs.Parts.{renumbered};
+ghost use Rattle.walk.specs.Walking.{say, Walks};
+ghost use Rattle.variable_references.specs.Declaring.{declWalk};
+ghost use Rattle.variable_references.specs.Heading.{HeadPlaces, Heads, ContainerBefore, FunctionBefore, DeclaredBefore, dropWalk, begunContainer, begunFunction, NewContainer, NewFunction, Arm, Heading, Keeps, constantParts, functionParts, headParts, structureParts, own, Starts, MainFlag};
+ghost use Rattle.penne.specs.Reader.{listed};
+ghost use Rattle.variable_references.specs.Entering.{Outside, InStructure, Under, paramWalk, paramsWalk, memberWalk, membersWalk, DeclaresEntry, NamesEntry};
 
 pub fn declaration(
     tree: &[u8],
@@ -48,7 +61,9 @@ pub fn declaration(
     list: &mut [u32],
     work: &mut [u32],
     st: Walk,
-) -> Walk {
+) -> Walk
+    ensures { λ r. ⌜ Walks (now (tree .entry)) readDecl declWalk st (now (answer .entry)) (now (list .entry)) (now (work .entry)) r (now (answer .exit)) (now (list .exit)) (now (work .exit)) ⌝ }
+{
     let at = st.at;
     let kind = below(tree, 6, at);
     let Read::Number(k, a) = kind else {
@@ -80,7 +95,9 @@ pub enum Head {
 }
 
 // A structure has one place, the others have two.
-pub fn read_head(tree: &[u8], names: u32, at: usize, kind: u32) -> Head {
+pub fn read_head(tree: &[u8], names: u32, at: usize, kind: u32) -> Head
+    ensures { λ r. ⌜ Heads (now (tree .entry)) names at kind r ⌝ }
+{
     if kind == 4 {
         return Head::Import;
     }
@@ -108,7 +125,9 @@ pub fn read_head(tree: &[u8], names: u32, at: usize, kind: u32) -> Head {
     })
 }
 
-fn head_places(tree: &[u8], at: usize, kind: u32) -> Read {
+fn head_places(tree: &[u8], at: usize, kind: u32) -> Read
+    ensures { λ r. ⌜ HeadPlaces (now (tree .entry)) at kind r ⌝ }
+{
     if kind == 3 {
         return number(tree, at);
     }
@@ -123,7 +142,9 @@ fn named_declaration(
     st: Walk,
     kind: u32,
     h: Start,
-) -> Walk {
+) -> Walk
+    ensures { λ r. ⌜ (Heading (now (tree .entry)) st kind h → Walks (now (tree .entry)) readDecl declWalk st (now (answer .entry)) (now (list .entry)) (now (work .entry)) r (now (answer .exit)) (now (list .exit)) (now (work .exit))) ⌝ }
+{
     let i = h.identifier;
     let twice = declared_before(work, st, kind, i);
     match twice {
@@ -138,7 +159,9 @@ pub enum Before {
     No,
 }
 
-fn declared_before(work: &[u32], st: Walk, kind: u32, i: Identifier) -> Before {
+fn declared_before(work: &[u32], st: Walk, kind: u32, i: Identifier) -> Before
+    ensures { λ r. ⌜ DeclaredBefore kind st i (now (work .entry)) r ⌝ }
+{
     match kind {
         0 => container_before(work, st, 0, 3, i),
         3 => container_before(work, st, 3, 8, i),
@@ -147,7 +170,9 @@ fn declared_before(work: &[u32], st: Walk, kind: u32, i: Identifier) -> Before {
 }
 
 // DuplicateDeclaration of a constant (3) or a structure (8). This declaration's row is what is counted before it.
-fn container_before(work: &[u32], st: Walk, kind: u32, poison: u32, i: Identifier) -> Before {
+fn container_before(work: &[u32], st: Walk, kind: u32, poison: u32, i: Identifier) -> Before
+    ensures { λ r. ⌜ ContainerBefore kind poison st i (now (work .entry)) r ⌝ }
+{
     let found = find_in(work, st.script, kind, i.name);
     let Found::At(row) = found else {
         return Before::No;
@@ -160,7 +185,9 @@ fn container_before(work: &[u32], st: Walk, kind: u32, poison: u32, i: Identifie
 }
 
 // DuplicateDeclaration of a function, kind 7.
-fn function_before(work: &[u32], st: Walk, i: Identifier) -> Before {
+fn function_before(work: &[u32], st: Walk, i: Identifier) -> Before
+    ensures { λ r. ⌜ FunctionBefore st i (now (work .entry)) r ⌝ }
+{
     let found = find_function_in(work, st, i.name);
     let Found::At(row) = found else {
         return Before::No;
@@ -173,7 +200,9 @@ fn function_before(work: &[u32], st: Walk, i: Identifier) -> Before {
 }
 
 // Nothing in it is looked at.
-fn drop_declaration(tree: &[u8], answer: &mut [u8], st: Walk, fault: Fault) -> Walk {
+fn drop_declaration(tree: &[u8], answer: &mut [u8], st: Walk, fault: Fault) -> Walk
+    ensures { λ r. ⌜ ((l w : List ℕ) → Walks (now (tree .entry)) readDecl (dropWalk fault) st (now (answer .entry)) l w r (now (answer .exit)) l w) ⌝ }
+{
     let at = st.at;
     let counts = st.counts;
     let one = past_declaration(tree, st.script.names, counts, at);
@@ -193,7 +222,9 @@ fn keep_declaration(
     st: Walk,
     kind: u32,
     h: Start,
-) -> Walk {
+) -> Walk
+    ensures { λ r. ⌜ Keeps (now (tree .entry)) kind h st (now (answer .entry)) (now (list .entry)) (now (work .entry)) r (now (answer .exit)) (now (list .exit)) (now (work .exit)) ⌝ }
+{
     let counts = st.counts;
     let more = count(counts, declaration_counts(kind));
     let Counted::Are(c) = more else {
@@ -217,7 +248,9 @@ fn started(
     flags: u32,
     h: Start,
     i: Identifier,
-) -> Walk {
+) -> Walk
+    ensures { λ r. ⌜ Starts (now (tree .entry)) kind flags h i st (now (answer .entry)) r (now (answer .exit)) ⌝ }
+{
     let w = st.wrote;
     let x = then_number(answer, w, kind);
     let y = then_number(answer, x, flags);
@@ -235,7 +268,9 @@ fn constant(
     st: Walk,
     h: Start,
     row: u32,
-) -> Walk {
+) -> Walk
+    ensures { λ r. ⌜ ((p q : Spot) → row < 128 → renumbered (now (tree .entry)) (h .places) (h .from) ≡ placeB p ++ placeB q → Arm (NewContainer false row (own h)) (begunContainer (own h)) (now (tree .entry)) (constantParts (h .flags) p q (own h)) (h .parts) st (now (answer .entry)) (now (list .entry)) (now (work .entry)) r (now (answer .exit)) (now (list .exit)) (now (work .exit))) ⌝ }
+{
     if 128 <= row {
         return st;
     }
@@ -267,7 +302,9 @@ fn function(
     st: Walk,
     h: Start,
     row: u32,
-) -> Walk {
+) -> Walk
+    ensures { λ r. ⌜ ((p q : Spot) → h .flags < 32 → h .identifier .name < st .script .names → renumbered (now (tree .entry)) (h .places) (h .from) ≡ placeB p ++ placeB q → Arm (NewFunction row (own h)) (begunFunction (own h)) (now (tree .entry)) (functionParts (h .flags) p q (own h)) (h .parts) st (now (answer .entry)) (now (list .entry)) (now (work .entry)) r (now (answer .exit)) (now (list .exit)) (now (work .exit))) ⌝ }
+{
     let j = function_at(work, row as usize);
     let i = h.identifier;
     let flags = with_main(h.flags, i.name, st.script.main);
@@ -279,7 +316,9 @@ fn function(
 }
 
 // "gains flag 4", where it is not there already.
-fn with_main(flags: u32, name: u32, main: u32) -> u32 {
+fn with_main(flags: u32, name: u32, main: u32) -> u32
+    ensures { λ r. ⌜ MainFlag flags name main r ⌝ }
+{
     if name != main {
         return flags;
     }
@@ -299,7 +338,9 @@ fn function_head(
     st: Walk,
     h: Start,
     row: u32,
-) -> Walk {
+) -> Walk
+    ensures { λ r. ⌜ ((p q : Spot) (l : List ℕ) → renumbered (now (tree .entry)) (h .places) (h .from) ≡ placeB p ++ placeB q → Arm (NewFunction row (own h)) (begunFunction (own h)) (now (tree .entry)) (headParts (h .flags) p q (own h)) (h .parts) st (now (answer .entry)) l (now (work .entry)) r (now (answer .exit)) l (now (work .exit))) ⌝ }
+{
     let j = function_at(work, row as usize);
     let s = started(
         tree,
@@ -315,14 +356,9 @@ fn function_head(
     maybe_type(tree, answer, work, q, 63)
 }
 
-fn structure(
-    tree: &[u8],
-    answer: &mut [u8],
-    work: &mut [u32],
-    st: Walk,
-    h: Start,
-    row: u32,
-) -> Walk {
+fn structure(tree: &[u8], answer: &mut [u8], work: &mut [u32], st: Walk, h: Start, row: u32) -> Walk
+    ensures { λ r. ⌜ ((p : Spot) (l : List ℕ) → renumbered (now (tree .entry)) (h .places) (h .from) ≡ placeB p → Arm (NewContainer true row (own h)) (begunContainer (own h)) (now (tree .entry)) (structureParts (h .flags) p (own h)) (h .parts) st (now (answer .entry)) l (now (work .entry)) r (now (answer .exit)) l (now (work .exit))) ⌝ }
+{
     let j = container_at(work, row as usize);
     let s = started(
         tree,
@@ -338,7 +374,9 @@ fn structure(
     maybe_type(tree, answer, work, q, 63)
 }
 
-fn import(tree: &[u8], answer: &mut [u8], st: Walk) -> Walk {
+fn import(tree: &[u8], answer: &mut [u8], st: Walk) -> Walk
+    ensures { λ r. ⌜ ((l w : List ℕ) → Walks (now (tree .entry)) readImport (λ d a. say (declB d) a) st (now (answer .entry)) l w r (now (answer .exit)) l w) ⌝ }
+{
     let at = st.at;
     let length = number(tree, at);
     let Read::Number(n, a) = length else {
@@ -359,7 +397,9 @@ fn import(tree: &[u8], answer: &mut [u8], st: Walk) -> Walk {
     st.wrote(z).moved(c)
 }
 
-fn parameters(tree: &[u8], answer: &mut [u8], work: &mut [u32], st: Walk) -> Walk {
+fn parameters(tree: &[u8], answer: &mut [u8], work: &mut [u32], st: Walk) -> Walk
+    ensures { λ r. ⌜ ((l : List ℕ) → Under Outside (now (tree .entry)) (listed (readParam 63 false)) paramsWalk st (now (answer .entry)) l (now (work .entry)) r (now (answer .exit)) l (now (work .exit))) ⌝ }
+{
     let at = st.at;
     let count = number(tree, at);
     let Read::Number(n, a) = count else {
@@ -377,7 +417,9 @@ fn parameters(tree: &[u8], answer: &mut [u8], work: &mut [u32], st: Walk) -> Wal
 }
 
 // The name before the type.
-fn parameter(tree: &[u8], answer: &mut [u8], work: &mut [u32], st: Walk) -> Walk {
+fn parameter(tree: &[u8], answer: &mut [u8], work: &mut [u32], st: Walk) -> Walk
+    ensures { λ r. ⌜ ((l : List ℕ) → Under Outside (now (tree .entry)) (readParam 63 false) paramWalk st (now (answer .entry)) l (now (work .entry)) r (now (answer .exit)) l (now (work .exit))) ⌝ }
+{
     let named = entry_name(tree, answer, work, st, 5);
     match named {
         Entry::Named(s, _) => maybe_type(tree, answer, work, s, 63),
@@ -394,7 +436,9 @@ pub enum Entry {
 }
 
 // Place and name of a parameter (kind 5) or a member (6).
-fn entry_name(tree: &[u8], answer: &mut [u8], work: &mut [u32], st: Walk, kind: u32) -> Entry {
+fn entry_name(tree: &[u8], answer: &mut [u8], work: &mut [u32], st: Walk, kind: u32) -> Entry
+    ensures { λ r. ⌜ NamesEntry kind (now (tree .entry)) st (now (answer .entry)) (now (work .entry)) r (now (answer .exit)) (now (work .exit)) ⌝ }
+{
     let at = st.at;
     let place = number(tree, at);
     let Read::Number(p, a) = place else {
@@ -417,7 +461,9 @@ fn entry_name(tree: &[u8], answer: &mut [u8], work: &mut [u32], st: Walk, kind: 
     declared(tree, answer, work, s, kind)
 }
 
-fn declared(tree: &[u8], answer: &mut [u8], work: &mut [u32], st: Walk, kind: u32) -> Entry {
+fn declared(tree: &[u8], answer: &mut [u8], work: &mut [u32], st: Walk, kind: u32) -> Entry
+    ensures { λ r. ⌜ DeclaresEntry kind (now (tree .entry)) st (now (answer .entry)) (now (work .entry)) r (now (answer .exit)) (now (work .exit)) ⌝ }
+{
     let at = st.at;
     let one = read_identifier(tree, st.script.names, at);
     let Identified::Is(i, a) = one else {
@@ -428,7 +474,7 @@ fn declared(tree: &[u8], answer: &mut [u8], work: &mut [u32], st: Walk, kind: u3
         Named::As(s, made) => {
             let w = s.wrote;
             let x = write_ok(answer, w, made);
-            Entry::Named(s.wrote(x).moved(a), i.place)
+            Entry::Named(s.wrote(x).moved(a), made.place)
         }
         Named::Not(s, fault) => {
             let w = s.wrote;
@@ -438,7 +484,10 @@ fn declared(tree: &[u8], answer: &mut [u8], work: &mut [u32], st: Walk, kind: u3
     }
 }
 
-fn members(tree: &[u8], answer: &mut [u8], work: &mut [u32], st: Walk, row: u32) -> Walk {
+// The members of the structure in that row.
+fn members(tree: &[u8], answer: &mut [u8], work: &mut [u32], st: Walk, row: u32) -> Walk
+    ensures { λ r. ⌜ ((c : Ident Spot) (l : List ℕ) → Under (InStructure row c) (now (tree .entry)) (listed (readParam 63 true)) (membersWalk c) st (now (answer .entry)) l (now (work .entry)) r (now (answer .exit)) l (now (work .exit))) ⌝ }
+{
     let at = st.at;
     let count = number(tree, at);
     let Read::Number(n, a) = count else {
@@ -456,7 +505,9 @@ fn members(tree: &[u8], answer: &mut [u8], work: &mut [u32], st: Walk, row: u32)
 }
 
 // analyze_wellfoundedness: a member "whose name was refused" adds no edge.
-fn member(tree: &[u8], answer: &mut [u8], work: &mut [u32], st: Walk, row: u32) -> Walk {
+fn member(tree: &[u8], answer: &mut [u8], work: &mut [u32], st: Walk, row: u32) -> Walk
+    ensures { λ r. ⌜ ((c : Ident Spot) (l : List ℕ) → Under (InStructure row c) (now (tree .entry)) (readParam 63 true) (memberWalk c) st (now (answer .entry)) l (now (work .entry)) r (now (answer .exit)) l (now (work .exit))) ⌝ }
+{
     let named = entry_name(tree, answer, work, st, 6);
     match named {
         Entry::Named(s, place) => {

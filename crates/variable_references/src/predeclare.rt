@@ -17,6 +17,7 @@ use tree::field::Identifier;
 use tree::number::Read;
 use tree::number::below;
 use tree::script::Layout;
+ghost use Rattle.variable_references.specs.Stages.{Pushed, Predeclares, PredeclaresAll};
 
 // What is counted when all is declared, and the next id.
 pub struct Predeclared {
@@ -24,7 +25,9 @@ pub struct Predeclared {
     pub next_id: u32,
 }
 
-pub fn predeclare_all(tree: &[u8], work: &mut [u32], layout: Layout) -> Predeclared {
+pub fn predeclare_all(tree: &[u8], work: &mut [u32], layout: Layout) -> Predeclared
+    ensures { λ r. ⌜ PredeclaresAll (now (tree .entry)) layout (now (work .entry)) r (now (work .exit)) ⌝ }
+{
     let names = layout.names;
     let mut rest = layout.count;
     let mut at = layout.first;
@@ -55,28 +58,29 @@ pub fn predeclare_all(tree: &[u8], work: &mut [u32], layout: Layout) -> Predecla
 }
 
 // The declaration at `at`; answers the id after it.
-fn predeclare(
-    tree: &[u8],
-    work: &mut [u32],
-    names: u32,
-    counts: Counts,
-    at: usize,
-    id: u32,
-) -> u32 {
+fn predeclare(tree: &[u8], work: &mut [u32], names: u32, counts: Counts, at: usize, id: u32) -> u32
+    ensures { λ r. ⌜ Predeclares (now (tree .entry)) names counts at id (now (work .entry)) r (now (work .exit)) ⌝ }
+{
     let kind = below(tree, 6, at);
     let Read::Number(k, a) = kind else {
         return id;
     };
     let head = read_head(tree, names, a, k);
-    let Head::Named(h) = head else {
-        return id;
-    };
-    let i = h.identifier;
-    push(work, k, counts, i, id);
-    next(id)
+    match head {
+        Head::Named(h) => {
+            let i = h.identifier;
+            push(work, k, counts, i, id);
+            next(id)
+        }
+        Head::Import => id,
+        Head::Poison => id,
+        Head::Unread => id,
+    }
 }
 
-fn push(work: &mut [u32], kind: u32, counts: Counts, i: Identifier, id: u32) {
+fn push(work: &mut [u32], kind: u32, counts: Counts, i: Identifier, id: u32)
+    ensures { λ _. ⌜ Pushed kind counts i id (now (work .entry)) (now (work .exit)) ⌝ }
+{
     if work.len() < WORDS {
         return;
     }

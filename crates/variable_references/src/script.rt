@@ -27,6 +27,16 @@ use walk::edges::find_in;
 use walk::state::Script;
 use walk::state::Tables;
 use walk::state::Walk;
+ghost use mathlib.Core.List.{_++_};
+ghost use Rattle.penne.specs.Reader.{many};
+ghost use Rattle.penne.specs.Read.{readDecl};
+ghost use Rattle.penne.specs.Write.{numB};
+ghost use Rattle.answer.specs.Out.{Put};
+ghost use Rattle.answer.specs.Parts.{part};
+ghost use Rattle.walk.specs.Walking.{Walks};
+ghost use Rattle.variable_references.specs.Declaring.{declsWalk};
+ghost use Rattle.variable_references.specs.Whole.{References};
+ghost use Rattle.variable_references.specs.Stages.{SaysNames, MainName, Started, DeterminesIn, KeptDepth, NamedDepth, DepthOf, SaysDepths};
 
 // How far answer and list are written, or that they did not fit.
 pub struct Answered {
@@ -40,7 +50,9 @@ pub fn variable_references(
     list: &mut [u32],
     work: &mut [u32],
     layout: Layout,
-) -> Answered {
+) -> Answered
+    ensures { λ r. ⌜ References (now (tree .entry)) layout (now (answer .entry)) (now (list .entry)) (now (work .entry)) r (now (answer .exit)) (now (list .exit)) ⌝ }
+{
     let begin = predeclare_all(tree, work, layout);
     let names = then_names(tree, answer);
     let x = then_number(answer, names, layout.count);
@@ -55,7 +67,9 @@ pub fn variable_references(
     }
 }
 
-fn started(tree: &[u8], layout: Layout, begin: Predeclared, wrote: Wrote) -> Walk {
+fn started(tree: &[u8], layout: Layout, begin: Predeclared, wrote: Wrote) -> Walk
+    ensures { λ r. ⌜ Started (now (tree .entry)) layout begin wrote r ⌝ }
+{
     let all = begin.counts;
     let scope = Scope::new();
     Walk {
@@ -83,7 +97,9 @@ fn started(tree: &[u8], layout: Layout, begin: Predeclared, wrote: Wrote) -> Wal
 }
 
 // "The answer keeps the names."
-fn then_names(tree: &[u8], answer: &mut [u8]) -> Wrote {
+fn then_names(tree: &[u8], answer: &mut [u8]) -> Wrote
+    ensures { λ r. ⌜ SaysNames (now (tree .entry)) (now (answer .entry)) r (now (answer .exit)) ⌝ }
+{
     let count = number(tree, 0);
     let Read::Number(n, a) = count else {
         return Wrote::Bytes(0);
@@ -110,20 +126,17 @@ fn then_names(tree: &[u8], answer: &mut [u8]) -> Wrote {
     w
 }
 
-fn then_name(
-    tree: &[u8],
-    answer: &mut [u8],
-    w: Wrote,
-    length: u32,
-    from: usize,
-    to: usize,
-) -> Wrote {
+fn then_name(tree: &[u8], answer: &mut [u8], w: Wrote, length: u32, from: usize, to: usize) -> Wrote
+    ensures { λ r. ⌜ Put w (numB length ++ part (now (tree .entry)) from to) (now (answer .entry)) r (now (answer .exit)) ⌝ }
+{
     let x = then_number(answer, w, length);
     then_copy(answer, x, tree, from, to)
 }
 
 // "named by the four bytes of `main`": the number of that name, or the count of names where none is.
-fn main_name(tree: &[u8]) -> u32 {
+fn main_name(tree: &[u8]) -> u32
+    ensures { λ r. ⌜ MainName (now (tree .entry)) r ⌝ }
+{
     let count = number(tree, 0);
     let Read::Number(n, a) = count else {
         return 0;
@@ -158,7 +171,9 @@ fn declarations(
     work: &mut [u32],
     st: Walk,
     count: u32,
-) -> Walk {
+) -> Walk
+    ensures { λ r. ⌜ Walks (now (tree .entry)) (many readDecl count) declsWalk st (now (answer .entry)) (now (list .entry)) (now (work .entry)) r (now (answer .exit)) (now (list .exit)) (now (work .exit)) ⌝ }
+{
     let mut s = st;
     let mut rest = count;
     while rest != 0 {
@@ -168,7 +183,9 @@ fn declarations(
     s
 }
 
-fn determine_depths(work: &mut [u32], script: Script) {
+fn determine_depths(work: &mut [u32], script: Script)
+    ensures { λ r. ⌜ DeterminesIn script (now (work .entry)) (now (work .exit)) ⌝ }
+{
     if work.len() < WORDS {
         return;
     }
@@ -184,7 +201,9 @@ fn then_depths(
     script: Script,
     layout: Layout,
     wrote: Wrote,
-) -> Wrote {
+) -> Wrote
+    ensures { λ r. ⌜ SaysDepths (now (tree .entry)) script layout wrote (now (work .entry)) (now (answer .entry)) r (now (answer .exit)) ⌝ }
+{
     let names = layout.names;
     let mut rest = layout.count;
     let mut at = layout.first;
@@ -209,24 +228,39 @@ fn then_depths(
 }
 
 // postanalyze: a constant or structure that was kept has a depth.
-fn depth_of(tree: &[u8], work: &[u32], script: Script, counts: Counts, at: usize) -> u32 {
+fn depth_of(tree: &[u8], work: &[u32], script: Script, counts: Counts, at: usize) -> u32
+    ensures { λ r. ⌜ DepthOf (now (tree .entry)) script counts at (now (work .entry)) r ⌝ }
+{
     let kind = below(tree, 6, at);
     let Read::Number(k, a) = kind else {
         return 0;
     };
     let head = read_head(tree, script.names, a, k);
-    let Head::Named(h) = head else {
-        return 0;
-    };
-    let i = h.identifier;
-    match k {
-        0 => kept_depth(work, script, 0, i.name, counts.containers),
-        3 => kept_depth(work, script, 3, i.name, counts.containers),
+    match head {
+        Head::Named(h) => {
+            let i = h.identifier;
+            named_depth(work, script, k, i.name, counts.containers)
+        }
+        Head::Import => 0,
+        Head::Poison => 0,
+        Head::Unread => 0,
+    }
+}
+
+// Only constants and structures are containers.
+fn named_depth(work: &[u32], script: Script, kind: u32, name: u32, row: u32) -> u32
+    ensures { λ r. ⌜ NamedDepth script kind name row (now (work .entry)) r ⌝ }
+{
+    match kind {
+        0 => kept_depth(work, script, 0, name, row),
+        3 => kept_depth(work, script, 3, name, row),
         _ => 0,
     }
 }
 
-fn kept_depth(work: &[u32], script: Script, kind: u32, name: u32, row: u32) -> u32 {
+fn kept_depth(work: &[u32], script: Script, kind: u32, name: u32, row: u32) -> u32
+    ensures { λ r. ⌜ KeptDepth script kind name row (now (work .entry)) r ⌝ }
+{
     if work.len() < WORDS {
         return 0;
     }

@@ -3,8 +3,12 @@
 use borrow.Author.Needs.{needs}
 use native.Mathlib.Omega.{arith}
 use mathlib.Core.Path.{_∙_}
+use Rattle.variable_references.proofs.Constants.{constant-arm}
 use Rattle.variable_references.proofs.declaration.constant.Statement.{statement}
 use Rattle.variable_references.proofs.declaration.constant.Tie as tie
+
+returns : tie.Need-returns
+returns c = λ p q low e. absurd (omega (arith, (c .if1 .taken), low))
 
 same-length : tie.Need-same-length
 same-length c = (c .before .before .before .before .contained-type .kept .1 .0) ∙ (c .before .before .before .before .before .before .before .before .before .before .before .before .before .before .expression .kept .1 .0) ∙ (c .before .before .before .before .before .before .before .before .before .before .before .before .before .before .before .before .before .before .before .before .before .started .kept .1 .0)
@@ -15,5 +19,8 @@ same-length-2 c = (c .before .before .before .before .before .before .before .be
 same-length-3 : tie.Need-same-length-3
 same-length-3 c = (c .before .before .before .before .contained-type .kept .1 .1 .0) ∙ (c .before .before .before .before .before .before .before .before .before .before .before .before .before .before .expression .kept .1 .1 .1 .0)
 
+returns-2 : tie.Need-returns-2
+returns-2 c = λ p q low e. constant-arm p q e (c .before .before .before .before .before .before .before .before .before .before .before .before .before .before .before .before .before .before .before .before .before .before .before .before .container-at .ensures) (c .before .before .before .before .before .before .before .before .before .before .before .before .before .before .before .before .before .before .before .before .before .before .resolved .ensures) (c .before .before .before .before .before .before .before .before .before .before .before .before .before .before .before .before .before .before .before .before .before .started .ensures) (c .before .before .before .before .before .before .before .before .before .before .before .before .before .before .before .in-constexpr-of .ensures) (c .before .before .before .before .before .before .before .before .before .before .before .before .before .before .expression .ensures) (c .before .before .before .before .before .in-constexpr-of2 .ensures) ((c .before .before .before .before .contained-type .ensures) _)
+
 pub constant-spec : {M : Type 1} → statement M
-constant-spec = tie.close (tie.spec (λ c. search needs) (λ c κs. search needs) (λ c κs. search needs) (λ c κs. search needs) (λ c. search needs) (λ c κs. search needs) (λ c κs. search needs) (λ c κs. search needs) (λ c κs. search needs) same-length same-length-2 same-length-3 (λ c. search needs))
+constant-spec = tie.close (tie.spec returns (λ c κs. search needs) (λ c κs. search needs) (λ c κs. search needs) (λ c. search needs) (λ c κs. search needs) (λ c κs. search needs) (λ c κs. search needs) (λ c κs. search needs) same-length same-length-2 same-length-3 returns-2)

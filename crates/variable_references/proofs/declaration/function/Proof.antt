@@ -3,6 +3,8 @@
 use borrow.Author.Needs.{needs}
 use native.Mathlib.Omega.{arith}
 use mathlib.Core.Path.{_∙_}
+use mathlib.Core.Bool.{false}
+use Rattle.variable_references.proofs.Functions.{function-arm}
 use Rattle.variable_references.proofs.declaration.function.Statement.{statement}
 use Rattle.variable_references.proofs.declaration.function.Tie as tie
 
@@ -15,5 +17,8 @@ same-length-2 c = (c .before .before .before .before .before .before .before .be
 same-length-3 : tie.Need-same-length-3
 same-length-3 c = (c .before .before .before .before .maybe-type .kept .1 .1 .0) ∙ (c .before .before .before .before .before .before .before .before .before .closed .kept .0) ∙ (c .before .before .before .before .before .before .before .before .before .before .before .before .before .before .before .before .before .maybe-body .kept .1 .1 .1 .0) ∙ (c .before .before .before .before .before .before .before .before .before .before .before .before .before .before .before .before .before .before .before .before .before .before .before .before .before .parameters .kept .1 .1 .0)
 
+returns : tie.Need-returns
+returns c = λ p q low less e. function-arm p q low less e (c .before .before .before .before .before .before .before .before .before .before .before .before .before .before .before .before .before .before .before .before .before .before .before .before .before .before .before .before .before .before .before .before .before .before .before .before .function-at .ensures) (c .before .before .before .before .before .before .before .before .before .before .before .before .before .before .before .before .before .before .before .before .before .before .before .before .before .before .before .before .before .before .before .before .before .before .with-main .ensures) (c .before .before .before .before .before .before .before .before .before .before .before .before .before .before .before .before .before .before .before .before .before .before .before .before .before .before .before .before .before .before .before .before .resolved .ensures) (c .before .before .before .before .before .before .before .before .before .before .before .before .before .before .before .before .before .before .before .before .before .before .before .before .before .before .before .before .before .before .before .started .ensures) (c .before .before .before .before .before .before .before .before .before .before .before .before .before .before .before .before .before .before .before .before .before .before .before .before .before .before .opened .ensures) ((c .before .before .before .before .before .before .before .before .before .before .before .before .before .before .before .before .before .before .before .before .before .before .before .before .before .parameters .ensures) _) (c .before .before .before .before .before .before .before .before .before .before .before .before .before .before .before .before .before .maybe-body .ensures) (c .before .before .before .before .before .before .before .before .before .closed .ensures) ((c .before .before .before .before .maybe-type .ensures) false _)
+
 pub function-spec : {M : Type 1} → statement M
-function-spec = tie.close (tie.spec (λ c κs. search needs) (λ c κs. search needs) (λ c κs. search needs) (λ c κs. search needs) (λ c κs. search needs) (λ c κs. search needs) (λ c κs. search needs) (λ c κs. search needs) (λ c κs. search needs) same-length same-length-2 same-length-3 (λ c. search needs))
+function-spec = tie.close (tie.spec (λ c κs. search needs) (λ c κs. search needs) (λ c κs. search needs) (λ c κs. search needs) (λ c κs. search needs) (λ c κs. search needs) (λ c κs. search needs) (λ c κs. search needs) (λ c κs. search needs) same-length same-length-2 same-length-3 returns)

@@ -3,6 +3,8 @@
 use borrow.Author.Needs.{needs}
 use native.Mathlib.Omega.{arith}
 use mathlib.Core.Path.{_∙_}
+use mathlib.Core.Bool.{false}
+use Rattle.variable_references.proofs.Functions.{head-arm}
 use Rattle.variable_references.proofs.declaration.function_head.Statement.{statement}
 use Rattle.variable_references.proofs.declaration.function_head.Tie as tie
 
@@ -12,5 +14,8 @@ same-length c = (c .before .before .before .before .maybe-type .kept .1 .0) ∙ 
 same-length-2 : tie.Need-same-length-2
 same-length-2 c = (c .before .before .before .before .maybe-type .kept .1 .1 .0) ∙ (c .before .before .before .before .before .before .before .before .before .closed .kept .0) ∙ (c .before .before .before .before .before .before .before .before .before .before .before .before .before .before .before .parameters .kept .1 .1 .0)
 
+returns : tie.Need-returns
+returns c = λ p q l e. head-arm p q e (c .before .before .before .before .before .before .before .before .before .before .before .before .before .before .before .before .before .before .before .before .before .before .before .before .function-at .ensures) (c .before .before .before .before .before .before .before .before .before .before .before .before .before .before .before .before .before .before .before .before .before .before .resolved .ensures) (c .before .before .before .before .before .before .before .before .before .before .before .before .before .before .before .before .before .before .before .before .before .started .ensures) (c .before .before .before .before .before .before .before .before .before .before .before .before .before .before .before .before .opened .ensures) ((c .before .before .before .before .before .before .before .before .before .before .before .before .before .before .before .parameters .ensures) l) (c .before .before .before .before .before .before .before .before .before .closed .ensures) ((c .before .before .before .before .maybe-type .ensures) false l)
+
 pub function-head-spec : {M : Type 1} → statement M
-function-head-spec = tie.close (tie.spec (λ c κs. search needs) (λ c κs. search needs) (λ c κs. search needs) (λ c κs. search needs) (λ c κs. search needs) (λ c κs. search needs) (λ c κs. search needs) same-length same-length-2 (λ c. search needs))
+function-head-spec = tie.close (tie.spec (λ c κs. search needs) (λ c κs. search needs) (λ c κs. search needs) (λ c κs. search needs) (λ c κs. search needs) (λ c κs. search needs) (λ c κs. search needs) same-length same-length-2 returns)

@@ -3,27 +3,33 @@
 use borrow.Author.Needs.{needs}
 use native.Mathlib.Omega.{arith}
 use mathlib.Core.Path.{_∙_}
-use Rattle.walk.proofs.Loops.{Kept, kept-start, kept-more}
+use Rattle.variable_references.proofs.Params.{under-start, under-more, under-done, list-unread, list-walked, outside-same, GoingParams, params-listed}
 use Rattle.variable_references.proofs.declaration.parameters.Statement.{statement}
 use Rattle.variable_references.proofs.declaration.parameters.Tie as tie
 
 abbrev Inv-loop : tie.InvT-loop
-Inv-loop tree answer₀ work₀ at n a s₀ rest₀ answer work s rest = Kept answer₀ answer₀ work₀ answer answer work
+Inv-loop tree answer₀ work₀ at n a s₀ rest₀ answer work s rest = GoingParams tree n s₀ answer₀ work₀ rest s answer work
 
 abbrev μ-loop : tie.MeasureT-loop
 μ-loop tree answer₀ work₀ at n a s₀ rest₀ answer work s rest = rest
 
+returns : tie.Need-returns Inv-loop μ-loop
+returns c = λ l. list-unread _ _ (c .before .before .number .ensures) (c .enum-told .given .1)
+
 loop-holds : tie.Need-loop-holds Inv-loop μ-loop
-loop-holds c = kept-start
+loop-holds c = under-start
 
 loop-again : tie.Need-loop-again Inv-loop μ-loop
-loop-again c = kept-more (c .before .before .before .before .before .before .before .before .loop .inv) (c .before .before .before .before .parameter .kept .1 .0) (c .before .before .before .before .parameter .kept .1 .0) (c .before .before .before .before .parameter .kept .1 .1 .0)
+loop-again c = under-more params-listed (c .before .before .before .before .before .before .before .before .loop .inv) (c .before .before .before .before .before .before .before .loop-test .taken) (λ n l. (c .before .before .before .before .parameter .ensures) l) (c .before .before .before .before .parameter .kept .1 .0) (c .before .before .before .before .parameter .kept .1 .1 .0)
 
 same-length : tie.Need-same-length Inv-loop μ-loop
-same-length c = (c .before .loop .inv .long-answer) ∙ (c .before .before .before .before .before .before .then-number .kept .0)
+same-length c = (c .before .loop .inv .kept .long-answer) ∙ (c .before .before .before .before .before .before .then-number .kept .0)
 
 same-length-2 : tie.Need-same-length-2 Inv-loop μ-loop
-same-length-2 c = (c .before .loop .inv .long-work)
+same-length-2 c = (c .before .loop .inv .kept .long-work)
+
+returns-2 : tie.Need-returns-2 Inv-loop μ-loop
+returns-2 c = λ l. list-walked _ _ (c .before .before .before .before .before .before .before .before .before .before .before .number .ensures) outside-same (c .before .before .before .before .before .before .before .before .before .count .given .1) (c .before .before .before .before .before .before .then-number .ensures) (c .before .before .before .wrote .ensures) (c .before .before .moved .ensures) (under-done params-listed (c .before .loop .inv) (c .loop-test .left) 0 l)
 
 pub parameters-spec : {M : Type 1} → statement M
-parameters-spec = tie.close (tie.spec Inv-loop μ-loop (λ c κs. search needs) (λ c. search needs) (λ c. search needs) (λ c. search needs) (λ c κs. search needs) (λ c κs. search needs) (λ c κs. search needs) loop-holds (λ c κs. search needs) (λ c. search needs) (λ c. search needs) loop-again same-length same-length-2 (λ c. search needs))
+parameters-spec = tie.close (tie.spec Inv-loop μ-loop (λ c κs. search needs) (λ c. search needs) (λ c. search needs) returns (λ c κs. search needs) (λ c κs. search needs) (λ c κs. search needs) loop-holds (λ c κs. search needs) (λ c. search needs) (λ c. search needs) loop-again same-length same-length-2 returns-2)

@@ -3,11 +3,15 @@
 use borrow.Author.Needs.{needs}
 use native.Mathlib.Omega.{arith}
 use mathlib.Core.Path.{_∙_}
+use Rattle.variable_references.proofs.Arms.{started-is}
 use Rattle.variable_references.proofs.declaration.started.Statement.{statement}
 use Rattle.variable_references.proofs.declaration.started.Tie as tie
 
 same-length : tie.Need-same-length
 same-length c = (c .before .before .before .before .write-identifier .kept .0) ∙ (c .before .before .before .before .before .before .before .before .then-numbers .kept .0) ∙ (c .before .before .before .before .before .before .before .before .before .before .before .before .then-number2 .kept .0) ∙ (c .before .before .before .before .before .before .before .before .before .before .before .before .before .before .before .before .then-number .kept .0)
 
+returns : tie.Need-returns
+returns c = started-is (c .before .before .before .before .before .before .before .before .before .before .before .before .before .before .before .before .then-number .ensures) (c .before .before .before .before .before .before .before .before .before .before .before .before .then-number2 .ensures) (c .before .before .before .before .before .before .before .before .then-numbers .ensures) (c .before .before .before .before .write-identifier .ensures) (c .before .wrote .ensures) (c .moved .ensures)
+
 pub started-spec : {M : Type 1} → statement M
-started-spec = tie.close (tie.spec (λ c κs. search needs) (λ c κs. search needs) (λ c κs. search needs) (λ c κs. search needs) (λ c κs. search needs) (λ c κs. search needs) same-length (λ c. search needs))
+started-spec = tie.close (tie.spec (λ c κs. search needs) (λ c κs. search needs) (λ c κs. search needs) (λ c κs. search needs) (λ c κs. search needs) (λ c κs. search needs) same-length returns)

@@ -2,21 +2,27 @@
 -- `variable_references::script/declarations` meets its contract. Assumes nothing.
 use borrow.Author.Needs.{needs}
 use native.Mathlib.Omega.{arith}
-use Rattle.walk.proofs.Loops.{Kept, kept-start, kept-more}
+use Rattle.variable_references.proofs.Starting.{decls-listed}
+use Rattle.walk.proofs.Leading.{Going, going-start, going-more, going-done}
+use Rattle.penne.specs.Read.{readDecl}
+use Rattle.variable_references.specs.Declaring.{declsWalk}
 use Rattle.variable_references.proofs.script.declarations.Statement.{statement}
 use Rattle.variable_references.proofs.script.declarations.Tie as tie
 
 abbrev Inv-loop : tie.InvT-loop
-Inv-loop tree answer₀ list₀ work₀ count s₀ rest₀ answer list work s rest = Kept answer₀ list₀ work₀ answer list work
+Inv-loop tree answer₀ list₀ work₀ count s₀ rest₀ answer list work s rest = Going tree readDecl declsWalk count s₀ answer₀ list₀ work₀ rest s answer list work
 
 abbrev μ-loop : tie.MeasureT-loop
 μ-loop tree answer₀ list₀ work₀ count s₀ rest₀ answer list work s rest = rest
 
 loop-holds : tie.Need-loop-holds Inv-loop μ-loop
-loop-holds c = kept-start
+loop-holds c = going-start
 
 loop-again : tie.Need-loop-again Inv-loop μ-loop
-loop-again c = kept-more (c .before .before .before .before .before .before .before .before .before .before .before .loop .inv) (c .before .before .before .before .before .before .declaration .kept .1 .0) (c .before .before .before .before .before .before .declaration .kept .1 .1 .0) (c .before .before .before .before .before .before .declaration .kept .1 .1 .1 .0)
+loop-again c = going-more decls-listed (c .before .before .before .before .before .before .before .before .before .before .before .loop .inv) (c .before .before .before .before .before .before .before .before .before .before .loop-test .taken) (c .before .before .before .before .before .before .declaration .ensures) (c .before .before .before .before .before .before .declaration .kept .1 .0) (c .before .before .before .before .before .before .declaration .kept .1 .1 .0) (c .before .before .before .before .before .before .declaration .kept .1 .1 .1 .0)
+
+returns : tie.Need-returns Inv-loop μ-loop
+returns c = going-done decls-listed (c .before .loop .inv) (c .loop-test .left)
 
 pub declarations-spec : {M : Type 1} → statement M
-declarations-spec = tie.close (tie.spec Inv-loop μ-loop loop-holds (λ c κs. search needs) (λ c. search needs) (λ c. search needs) loop-again (λ c. search needs) (λ c. search needs) (λ c. search needs) (λ c. search needs))
+declarations-spec = tie.close (tie.spec Inv-loop μ-loop loop-holds (λ c κs. search needs) (λ c. search needs) (λ c. search needs) loop-again (λ c. search needs) (λ c. search needs) (λ c. search needs) returns)

@@ -3,14 +3,40 @@
 use borrow.Author.Needs.{needs}
 use native.Mathlib.Omega.{arith}
 use Prim.Native.Nat.{_-_}
+use Rattle.variable_references.proofs.Naming.{counted-at}
+use Rattle.variable_references.proofs.Seeking.{Seeking, seeking-start, seeking-unread, seeking-large, seeking-far, seeking-found, seeking-more, seeking-none, main-uncounted}
 use Rattle.variable_references.proofs.script.main_name.Statement.{statement}
 use Rattle.variable_references.proofs.script.main_name.Tie as tie
 
 abbrev Inv-loop : tie.InvT-loop
-Inv-loop tree n a at₀ k₀ t11 at k = Unit {0}
+Inv-loop tree n a at₀ k₀ t11 at k = Seeking tree n a k at
 
 abbrev μ-loop : tie.MeasureT-loop
 μ-loop tree n a at₀ k₀ t11 at k = n - k
 
+returns : tie.Need-returns Inv-loop μ-loop
+returns c = main-uncounted (c .before .before .number .ensures) (c .enum-told .given .1)
+
+loop-holds : tie.Need-loop-holds Inv-loop μ-loop
+loop-holds c = seeking-start
+
+returns-2 : tie.Need-returns-2 Inv-loop μ-loop
+returns-2 c = seeking-unread (c .before .before .before .before .loop .inv) (c .before .before .number2 .ensures) (c .before .before .before .loop-test .taken) (counted-at (c .before .before .before .before .before .before .before .before .number .ensures) (c .before .before .before .before .before .before .count .given .1)) (c .enum-told2 .given .1)
+
+returns-3 : tie.Need-returns-3 Inv-loop μ-loop
+returns-3 c = seeking-large (c .before .before .before .before .before .before .loop .inv) (c .before .before .before .before .number2 .ensures) (c .before .before .before .before .before .loop-test .taken) (counted-at (c .before .before .before .before .before .before .before .before .before .before .number .ensures) (c .before .before .before .before .before .before .before .before .count .given .1)) (c .before .before .length .given .1) (c .if1 .taken)
+
+returns-4 : tie.Need-returns-4 Inv-loop μ-loop
+returns-4 c = seeking-far (c .before .before .before .before .before .before .before .loop .inv) (c .before .before .before .before .before .number2 .ensures) (c .before .before .before .before .before .before .loop-test .taken) (counted-at (c .before .before .before .before .before .before .before .before .before .before .before .number .ensures) (c .before .before .before .before .before .before .before .before .before .count .given .1)) (c .before .before .before .length .given .1) (c .if2 .taken)
+
+returns-5 : tie.Need-returns-5 Inv-loop μ-loop
+returns-5 c = seeking-found (c .before .before .before .before .before .before .before .before .before .before .before .loop .inv) (c .before .before .before .before .before .before .before .before .before .number2 .ensures) (c .before .before .before .before .before .before .before .before .before .before .loop-test .taken) (c .before .before .before .before .before .before .before .length .given .1) (c .before .before .before .bytes-at .ensures) (c .before .same .ensures) (counted-at (c .before .before .before .before .before .before .before .before .before .before .before .before .before .before .before .number .ensures) (c .before .before .before .before .before .before .before .before .before .before .before .before .before .count .given .1)) (c .if3 .taken)
+
+loop-again : tie.Need-loop-again Inv-loop μ-loop
+loop-again c = seeking-more (c .before .before .before .before .before .before .before .before .before .before .before .loop .inv) (c .before .before .before .before .before .before .before .before .before .number2 .ensures) (c .before .before .before .before .before .before .before .before .before .before .loop-test .taken) (c .before .before .before .before .before .before .before .length .given .1) (c .before .before .before .bytes-at .ensures) (c .before .same .ensures) (c .if3 .left)
+
+returns-6 : tie.Need-returns-6 Inv-loop μ-loop
+returns-6 c = seeking-none (c .before .loop .inv) (counted-at (c .before .before .before .before .before .number .ensures) (c .before .before .before .count .given .1)) (c .loop-test .left)
+
 pub main-name-spec : {M : Type 1} → statement M
-main-name-spec = tie.close (tie.spec Inv-loop μ-loop (λ c κs. search needs) (λ c. search needs) (λ c. search needs) (λ c. search needs) (λ c. search needs) (λ c κs. search needs) (λ c. search needs) (λ c. search needs) (λ c. search needs) (λ c. search needs) (λ c. search needs) (λ c. search needs) (λ c κs. search needs) (λ c. search needs) (λ c κs. search needs) (λ c. search needs) (λ c. search needs) (λ c. search needs) (λ c. search needs) (λ c. search needs) (λ c. search needs))
+main-name-spec = tie.close (tie.spec Inv-loop μ-loop (λ c κs. search needs) (λ c. search needs) (λ c. search needs) returns loop-holds (λ c κs. search needs) (λ c. search needs) (λ c. search needs) returns-2 returns-3 returns-4 (λ c. search needs) (λ c κs. search needs) (λ c. search needs) (λ c κs. search needs) returns-5 (λ c. search needs) (λ c. search needs) (λ c. search needs) loop-again returns-6)

@@ -2,28 +2,49 @@
 -- `variable_references::script/then_names` meets its contract. Assumes nothing.
 use borrow.Author.Needs.{needs}
 use native.Mathlib.Omega.{arith}
-use mathlib.Core.Path.{_≡_, _∙_}
-use lib.ListN.{length}
+use mathlib.Core.Path.{_∙_}
+use Rattle.variable_references.proofs.Naming.{Copying, copying-start, copying-unread, copying-large, copying-far, copying-more, copying-done, counted-at, names-uncounted}
 use Rattle.variable_references.proofs.script.then_names.Statement.{statement}
 use Rattle.variable_references.proofs.script.then_names.Tie as tie
 
 abbrev Inv-loop : tie.InvT-loop
-Inv-loop tree answer₀ n a w₀ at₀ rest₀ answer w at rest = length answer ≡ length answer₀
+Inv-loop tree answer₀ n a w₀ at₀ rest₀ answer w at rest = Copying tree answer₀ w₀ n a rest at w answer
 
 abbrev μ-loop : tie.MeasureT-loop
 μ-loop tree answer₀ n a w₀ at₀ rest₀ answer w at rest = rest
 
+returns : tie.Need-returns Inv-loop μ-loop
+returns c = names-uncounted (c .before .before .number .ensures) (c .enum-told .given .1)
+
+loop-holds : tie.Need-loop-holds Inv-loop μ-loop
+loop-holds c = copying-start (c .before .before .then-number .ensures)
+
 same-length : tie.Need-same-length Inv-loop μ-loop
-same-length c = (c .before .before .before .before .loop .inv) ∙ (c .before .before .before .before .before .before .before .then-number .kept .0)
+same-length c = (c .before .before .before .before .loop .inv .long) ∙ (c .before .before .before .before .before .before .before .then-number .kept .0)
+
+returns-2 : tie.Need-returns-2 Inv-loop μ-loop
+returns-2 c = copying-unread (c .before .before .before .before .loop .inv) (c .before .before .number2 .ensures) (c .before .before .before .loop-test .taken) (counted-at (c .before .before .before .before .before .before .before .before .before .before .before .before .number .ensures) (c .before .before .before .before .before .before .before .before .before .before .count .given .1)) (c .enum-told2 .given .1)
 
 same-length-2 : tie.Need-same-length-2 Inv-loop μ-loop
-same-length-2 c = (c .before .before .before .before .before .before .loop .inv) ∙ (c .before .before .before .before .before .before .before .before .before .then-number .kept .0)
+same-length-2 c = (c .before .before .before .before .before .before .loop .inv .long) ∙ (c .before .before .before .before .before .before .before .before .before .then-number .kept .0)
+
+returns-3 : tie.Need-returns-3 Inv-loop μ-loop
+returns-3 c = copying-large (c .before .before .before .before .before .before .loop .inv) (c .before .before .before .before .number2 .ensures) (c .before .before .before .before .before .loop-test .taken) (c .before .before .length .given .1) (counted-at (c .before .before .before .before .before .before .before .before .before .before .before .before .before .before .number .ensures) (c .before .before .before .before .before .before .before .before .before .before .before .before .count .given .1)) (c .if1 .taken)
 
 same-length-3 : tie.Need-same-length-3 Inv-loop μ-loop
-same-length-3 c = (c .before .before .before .before .before .before .before .loop .inv) ∙ (c .before .before .before .before .before .before .before .before .before .before .then-number .kept .0)
+same-length-3 c = (c .before .before .before .before .before .before .before .loop .inv .long) ∙ (c .before .before .before .before .before .before .before .before .before .before .then-number .kept .0)
+
+returns-4 : tie.Need-returns-4 Inv-loop μ-loop
+returns-4 c = copying-far (c .before .before .before .before .before .before .before .loop .inv) (c .before .before .before .before .before .number2 .ensures) (c .before .before .before .before .before .before .loop-test .taken) (c .before .before .before .length .given .1) (counted-at (c .before .before .before .before .before .before .before .before .before .before .before .before .before .before .before .number .ensures) (c .before .before .before .before .before .before .before .before .before .before .before .before .before .count .given .1)) (c .if2 .taken)
+
+loop-again : tie.Need-loop-again Inv-loop μ-loop
+loop-again c = copying-more (c .before .before .before .before .before .before .before .before .before .before .before .loop .inv) (c .before .before .before .before .before .before .before .before .before .number2 .ensures) (c .before .before .before .before .before .before .before .before .before .before .loop-test .taken) (c .before .before .before .before .before .before .before .length .given .1) (c .before .before .then-name .ensures) (c .before .before .then-name .kept .1 .0)
 
 same-length-4 : tie.Need-same-length-4 Inv-loop μ-loop
-same-length-4 c = (c .before .loop .inv) ∙ (c .before .before .before .before .then-number .kept .0)
+same-length-4 c = (c .before .loop .inv .long) ∙ (c .before .before .before .before .then-number .kept .0)
+
+returns-5 : tie.Need-returns-5 Inv-loop μ-loop
+returns-5 c = copying-done (c .before .loop .inv) (c .before .before .before .before .then-number .ensures) (counted-at (c .before .before .before .before .before .before .before .before .before .number .ensures) (c .before .before .before .before .before .before .before .count .given .1)) (c .loop-test .left)
 
 pub then-names-spec : {M : Type 1} → statement M
-then-names-spec = tie.close (tie.spec Inv-loop μ-loop (λ c κs. search needs) (λ c. search needs) (λ c. search needs) (λ c. search needs) (λ c κs. search needs) (λ c. search needs) (λ c κs. search needs) (λ c. search needs) (λ c. search needs) same-length (λ c. search needs) same-length-2 (λ c. search needs) same-length-3 (λ c. search needs) (λ c. search needs) (λ c. search needs) (λ c κs. search needs) (λ c. search needs) (λ c. search needs) (λ c. search needs) same-length-4 (λ c. search needs))
+then-names-spec = tie.close (tie.spec Inv-loop μ-loop (λ c κs. search needs) (λ c. search needs) (λ c. search needs) returns (λ c κs. search needs) loop-holds (λ c κs. search needs) (λ c. search needs) (λ c. search needs) same-length returns-2 same-length-2 returns-3 same-length-3 returns-4 (λ c. search needs) (λ c. search needs) (λ c κs. search needs) (λ c. search needs) (λ c. search needs) loop-again same-length-4 returns-5)

@@ -1,0 +1,5 @@
+pub mod Declaring
+pub mod Heading
+pub mod Entering
+pub mod Stages
+pub mod Whole
