@@ -12,6 +12,7 @@ use Rattle.penne.specs.Scoper.{Asked, told, untold, Outcome}
 use Rattle.scoper.specs.declared.Scoped.{Scoped}
 use Rattle.scoper.specs.declared.Scoped.the-variants as S
 use Rattle.scoper.specs.Scoping.{outcomeOf, Scopes}
+use Rattle.scoper.proofs.Unique.{tree-is, list-is, work-is}
 use Rattle.scoper.specs.declared.Depth.{Depth}
 use Rattle.scoper.specs.declared.Depth.the-variants as D
 use Rattle.scoper.specs.declared.Named.{Named}
@@ -109,18 +110,6 @@ told-as room p q = p ∙ ap (toldWords room) q
 -- THE SCOPING CALL
 
 module _ (r : Scoped) (o l w : List ℕ) where
-  tree-is : (outcomeOf r o l w) .tree ≡ o
-  unfolding outcomeOf
-  tree-is = elim r as (λ x. (outcomeOf x o l w) .tree ≡ o) [ S.Answer n k ↦ refl | S.Refused n p ↦ refl ]
-
-  list-is : (outcomeOf r o l w) .list ≡ l
-  unfolding outcomeOf
-  list-is = elim r as (λ x. (outcomeOf x o l w) .list ≡ l) [ S.Answer n k ↦ refl | S.Refused n p ↦ refl ]
-
-  work-is : (outcomeOf r o l w) .work ≡ w
-  unfolding outcomeOf
-  work-is = elim r as (λ x. (outcomeOf x o l w) .work ≡ w) [ S.Answer n k ↦ refl | S.Refused n p ↦ refl ]
-
   pub told-answer : {n k : ℕ} → r ≡ S.Answer n k → record { number = 0; place = 0; first = n; second = k } ≡ scopedTold (outcomeOf r o l w)
   unfolding outcomeOf scopedTold
   told-answer e = ap (λ (x : Scoped). scopedTold (outcomeOf x o l w)) (sym e)
