@@ -1,6 +1,6 @@
 -- Parameters and members, each with its type, and lists of them.
 use mathlib.Core.Path.{_≡_, refl, sym, ap, subst, _∙_}
-use mathlib.Core.Bool.{true, false}
+use mathlib.Core.Bool.{Bool, true, false}
 use mathlib.Core.List.{List, [], _∷_, _++_, append-assoc, append-nil}
 use mathlib.Core.Option.{Option, none, some}
 use Prim.Native.Nat.{ℕ, zero, suc, _-_, _≤_, _<_}
@@ -25,8 +25,10 @@ use Rattle.answer.specs.Out.{Put}
 use Rattle.containers.specs.Table.{at}
 use Rattle.walk.specs.declared.state.Walk.{Walk}
 use Rattle.walk.specs.declared.edges.Holder.{Holder}
+use Rattle.walk.specs.declared.edges.Holding.{Holding}
+use Rattle.walk.specs.declared.edges.Holding.the-variants as H
 use Rattle.walk.specs.Walking.{Moves, Writes, here, Ground, Good, Is, onward, say, Did, Leads, Input, Walks}
-use Rattle.walk.specs.Calls.{Member, the-member}
+use Rattle.walk.specs.Calls.{the-member, Stays, stays, goes, heldBy, Decides}
 use Rattle.walk.proofs.Loops.{Kept, kept-start, kept-more}
 use Rattle.walk.proofs.Leading.{leads-bind, leads-read, leads-unread, leads-call, leads-end, leads-got, is-same}
 use Rattle.walk.proofs.Writing.{here-moved, moved, wrote}
@@ -34,7 +36,7 @@ use Rattle.types.specs.Typing.{analyzeContained, Contains}
 use Rattle.types.proofs.Trying.{leads-at}
 use Rattle.variable_references.specs.declared.declaration.Entry.{Entry}
 use Rattle.variable_references.specs.declared.declaration.Entry.the-variants as E
-use Rattle.variable_references.specs.Entering.{Outside, InStructure, Under, paramWalk, paramsWalk, memberWalk, membersWalk, walkOf, Names, named, nameless, Entered, placeAndName, placedB, NamesEntry}
+use Rattle.variable_references.specs.Entering.{Outside, InStructure, Under, paramWalk, paramsWalk, memberWalk, membersWalk, analyzeHeld, TypesMember, walkOf, Names, named, nameless, Entered, placeAndName, placedB, NamesEntry}
 use Rattle.variable_references.proofs.Staying.{inside-name, outside-param, inside-member}
 
 -- PLACE AND NAME, AND THEN THE REST
@@ -54,14 +56,18 @@ leads-named : {A : Type 0} {P : A → Cur → Type 0} {R : Spot × Maybe Spot (I
     → ((p : Spot) (i : Maybe Spot (Ident Spot)) (d : Cur) → R (p, i) d → Leads (f p i) t d P) → Leads (counting (λ _. anEntry) place >>= λ p. maybe ident >>= λ i. f p i) t c P
 leads-named f {t} {c} k next = leads-bind _ _ λ p d g. leads-bind _ _ λ i e h. next p i e (k .to (p, i) e (place-and-name t c g h))
 
--- told by what the code answered
-told-named : {v : Entry} {y : Maybe Spot (Ident Spot)} {s : Walk} {p : ℕ} → Names v y → v ≡ E.Named s p → (i : Ident Spot) × (y ≡ ok i) × (p ≡ i .place .number)
-told-named {p = p} (named {p = q} {i = i} h) e = let z : q ≡ p = cc in (i, refl, sym z ∙ h)
-told-named nameless e = absurd (let z : _≡_ {A = ℕ} 0 1 = cc in omega arith)
+-- somebody who was declared there
+abbrev anybody : ℕ → Ident Spot
+anybody n = record { name = 0; place = record { number = n; from = 0 }; id = 0; auth = 0 }
 
-told-nameless : {v : Entry} {y : Maybe Spot (Ident Spot)} {s : Walk} → Names v y → v ≡ E.Nameless s → (z : Poison Spot) × (y ≡ err z)
-told-nameless (named h) e = absurd (let z : _≡_ {A = ℕ} 0 1 = cc in omega arith)
-told-nameless (nameless {z = z}) e = (z, refl)
+-- the member as it is told: it has its name, or was refused
+told-named : {v : Entry} {y : Maybe Spot (Ident Spot)} {s : Walk} {p : ℕ} → v ≡ E.Named s p → Names v y → (i : Ident Spot) × Stays i true y × (p ≡ i .place .number)
+told-named {p = p} e (named {p = q} {i = i} h) = let z : q ≡ p = cc in (i, stays, sym z ∙ h)
+told-named e nameless = absurd (let z : _≡_ {A = ℕ} 0 1 = cc in omega arith)
+
+told-nameless : {v : Entry} {y : Maybe Spot (Ident Spot)} {s : Walk} → v ≡ E.Nameless s → Names v y → (i : Ident Spot) × Stays i false y × (0 ≡ i .place .number)
+told-nameless e (named h) = absurd (let z : _≡_ {A = ℕ} 0 1 = cc in omega arith)
+told-nameless e nameless = (anybody 0, goes, refl)
 
 -- THE BYTES
 
@@ -76,18 +82,18 @@ param-is k p x y a = ap (λ (xs : List ℕ). record { out = xs; st = analyzeMayb
 abbrev typed : Spot → Maybe Spot (Ident Spot) → Ground → Maybe Spot (Ty Spot) × Analyzer Spot → Ground
 typed p i a v = record { out = a .out ++ (placeB p ++ (maybeB identB i ++ maybeB tyB (v .0))); st = v .1; rest = a .rest }
 
-member-by : (c : Ident Spot) (p : Spot) (x : Maybe Spot (Ident Spot)) (y : Maybe Spot (Ty Spot)) (a : Ground) {i : Maybe Spot (Ident Spot)} → declareMaybe 6 x (a .st) .0 ≡ i
-    → typed p (declareMaybe 6 x (a .st) .0) a (analyzeWellfoundedness c i (analyzeMaybeType y (declareMaybe 6 x (a .st) .1) .0) (analyzeMaybeType y (declareMaybe 6 x (a .st) .1) .1)) ≡ memberWalk c (record { place = p; ident = x; type = y }) a
+member-by : (c : Ident Spot) (p : Spot) (x : Maybe Spot (Ident Spot)) (y : Maybe Spot (Ty Spot)) (a : Ground)
+    → typed p (declareMaybe 6 x (a .st) .0) a (analyzeWellfoundedness c (declareMaybe 6 x (a .st) .0) (analyzeMaybeType y (declareMaybe 6 x (a .st) .1) .0) (analyzeMaybeType y (declareMaybe 6 x (a .st) .1) .1)) ≡ memberWalk c (record { place = p; ident = x; type = y }) a
 unfolding analyzeMember analyzeParam paramB S._>>=_ S.ret
-member-by c p x y a e = ap (λ (j : Maybe Spot (Ident Spot)). typed p (declareMaybe 6 x (a .st) .0) a (analyzeWellfoundedness c j (analyzeMaybeType y (declareMaybe 6 x (a .st) .1) .0) (analyzeMaybeType y (declareMaybe 6 x (a .st) .1) .1))) (sym e)
+member-by c p x y a = refl
 
-member-named-is : (c m : Ident Spot) (p : Spot) (x : Maybe Spot (Ident Spot)) (y : Maybe Spot (Ty Spot)) (a : Ground) → declareMaybe 6 x (a .st) .0 ≡ ok m → onward (analyzeContained c (some m)) (maybeB tyB) y (onward (declareMaybe 6) (placedB p) x a) ≡ memberWalk c (record { place = p; ident = x; type = y }) a
-unfolding analyzeContained analyzeWellfoundedness S._>>=_
-member-named-is c m p x y a e = ap (λ (xs : List ℕ). record { out = xs; st = analyzeContained c (some m) y (declareMaybe 6 x (a .st) .1) .1; rest = a .rest }) (bytes-of (a .out) (placeB p) _ _) ∙ member-by c p x y a e
-
-member-nameless-is : (c : Ident Spot) (z : Poison Spot) (p : Spot) (x : Maybe Spot (Ident Spot)) (y : Maybe Spot (Ty Spot)) (a : Ground) → declareMaybe 6 x (a .st) .0 ≡ err z → onward analyzeMaybeType (maybeB tyB) y (onward (declareMaybe 6) (placedB p) x a) ≡ memberWalk c (record { place = p; ident = x; type = y }) a
-unfolding analyzeWellfoundedness S.ret
-member-nameless-is c z p x y a e = ap (λ (xs : List ℕ). record { out = xs; st = analyzeMaybeType y (declareMaybe 6 x (a .st) .1) .1; rest = a .rest }) (bytes-of (a .out) (placeB p) _ _) ∙ member-by c p x y a e
+member-held-is : (by : Holding) (c i : Ident Spot) (p : Spot) (x : Maybe Spot (Ident Spot)) (y : Maybe Spot (Ty Spot)) (a : Ground) → ((u : Maybe Spot (Ty Spot)) → heldBy by c i u ≡ analyzeWellfoundedness c (declareMaybe 6 x (a .st) .0) u)
+    → onward (analyzeHeld by c i) (maybeB tyB) y (onward (declareMaybe 6) (placedB p) x a) ≡ memberWalk c (record { place = p; ident = x; type = y }) a
+unfolding analyzeHeld S._>>=_
+member-held-is by c i p x y a e =
+    let q = analyzeMaybeType y (declareMaybe 6 x (a .st) .1) in
+    ap (λ (xs : List ℕ). record { out = xs; st = analyzeHeld by c i y (declareMaybe 6 x (a .st) .1) .1; rest = a .rest }) (bytes-of (a .out) (placeB p) _ _)
+    ∙ ap (λ (f : Pass Spot (Maybe Spot (Ty Spot))). typed p (declareMaybe 6 x (a .st) .0) a (f (q .1))) (e (q .0)) ∙ member-by c p x y a
 
 -- what holds behind a member held behind its name
 wellfounded-ids : (c : Ident Spot) (i : Maybe Spot (Ident Spot)) (t : Maybe Spot (Ty Spot)) (a : Analyzer Spot) → a .resolutionId ≤ analyzeWellfoundedness c i t a .1 .resolutionId
@@ -107,10 +113,6 @@ good-name c p x y a z =
 -- what is true where the walk is good
 is-when : {s : Walk} {o l w : List ℕ} {a : Ground} → (Good a → Is s o l w a) → Is s o l w a
 is-when k = record { when = λ z. k z .when z }
-
--- somebody who was declared there
-abbrev anybody : ℕ → Ident Spot
-anybody n = record { name = 0; place = record { number = n; from = 0 }; id = 0; auth = 0 }
 
 row-at : (b : Holder) (cs : List (Container Spot)) {row : ℕ} {c : Ident Spot} → b .row ≡ row → (at cs row) .identifier ≡ c → (at cs (b .row)) .identifier ≡ c
 row-at b cs {c = c} e h = subst (λ (n : ℕ). (at cs n) .identifier ≡ c) (sym e) h
@@ -143,32 +145,52 @@ module _ {t : List ℕ} {s : Walk} {o l w : List ℕ} {v : Entry} {o₁ w₁ : L
     unfolding readParam poisonNames poisonPlaces poisonFields
     member-unread e = record { does = λ h a out i. leads-named _ (k .does refl refl h l a (λ z. out z .outside) i) λ p x d z. absurd (z .read _ e) }
 
-    pub member-nameless : {s₁ r : Walk} {o₂ w₂ : List ℕ} → v ≡ E.Nameless s₁ → Walks t (maybe (readTy 63 true)) (onward analyzeMaybeType (maybeB tyB)) s₁ o₁ l w₁ r o₂ l w₂ → Under (InStructure row c) t (readParam 63 true) (memberWalk c) s o l w r o₂ l w₂
-    unfolding readParam poisonNames poisonPlaces poisonFields walkOf
-    member-nameless {s₁} e kt = record {
-      does = λ h a out i. leads-named _ (k .does refl refl h l a (λ z. out z .outside) i) λ p x d z.
-          let q : walkOf v ≡ s₁ = ap walkOf e in
-          leads-at (sym (z .did .cur ∙ ap here q)) (leads-call _ kt h (subst (λ (y : Walk). Is y o₁ l w₁ (onward (declareMaybe 6) (placedB p) x a)) q (z .did .is)) λ y _ i₁.
-          leads-end (record { place = p; ident = x; type = y }) refl i₁ λ g. member-nameless-is c _ p x y a (told-nameless (z .told (good-name c p x y a g)) e .1));
-    }
-
-    pub member-named : {s₁ : Walk} {pl : ℕ} {b : Holder} {r : Walk} {o₂ w₂ : List ℕ} → v ≡ E.Named s₁ pl → b ≡ record { row = row; «is_member» = true; member = pl } → Contains t (maybe (readTy 63 true)) b s₁ o₁ l w₁ r o₂ l w₂ → Under (InStructure row c) t (readParam 63 true) (memberWalk c) s o l w r o₂ l w₂
-    unfolding readParam poisonNames poisonPlaces poisonFields walkOf
-    member-named {s₁} {pl} {b} {r} {o₂} {w₂} e hb kt = record {
-      does = λ h a out i. leads-named _ (k .does refl refl h l a (λ z. out z .outside) i) λ p x d z.
-          let q : walkOf v ≡ s₁ = ap walkOf e in
+    -- its type, held as is decided by its name
+    typed-by : {named : Bool} {pl : ℕ} {s₁ : Walk} {by : Holding} {r : Walk} {o₂ w₂ : List ℕ} → walkOf v ≡ s₁ → ((y : Maybe Spot (Ident Spot)) → Names v y → (i : Ident Spot) × Stays i named y × (pl ≡ i .place .number)) → Decides named row pl by → TypesMember t by s₁ o₁ l w₁ r o₂ l w₂
+        → Under (InStructure row c) t (readParam 63 true) (memberWalk c) s o l w r o₂ l w₂
+    unfolding readParam poisonNames poisonPlaces poisonFields
+    typed-by {pl = pl} {s₁} {by} {r} {o₂} {w₂} q told d kt = record {
+      does = λ h a out i. leads-named _ (k .does refl refl h l a (λ z. out z .outside) i) λ p x b z.
           let a₁ : Ground = onward (declareMaybe 6) (placedB p) x a in
           let i₁ : Is s₁ o₁ l w₁ a₁ = subst (λ (y : Walk). Is y o₁ l w₁ a₁) q (z .did .is) in
           let in₁ : Good a₁ → InStructure row c a₁ = λ g. inside-name 6 x _ a (out (good-before 6 p x a g)) in
-          let at-row : b .row ≡ row = ap (λ (y : Holder). y .row) hb in
-          let goes : (m : Ident Spot) → pl ≡ m .place .number → Leads (maybe (readTy 63 true)) t (here s₁) (λ y d. Did d (onward (analyzeContained c (some m)) (maybeB tyB) y a₁) r o₂ l w₂) = λ m n.
-          kt .does h c (some m) (the-member (ap (λ (y : Holder). y .«is_member») hb) (ap (λ (y : Holder). y .member) hb ∙ n)) a₁
-          (λ g. omega (arith, at-row, in₁ g .low, i₁ .when g .tables .containers .counted)) (λ g. row-at b (a₁ .st .containment .containers) at-row (in₁ g .is)) i₁ in
-          leads-at (sym (z .did .cur ∙ ap here q)) (leads-bind _ _ λ y d g. leads-got (record { place = p; ident = x; type = y }) (record {
-            cur = goes (anybody pl) refl .to y d g .cur;
-            is = is-when λ u. let m = told-named (z .told (good-name c p x y a u)) e in is-same (λ _. member-named-is c (m .0) p x y a (m .1)) (goes (m .0) (m .2) .to y d g .is);
+          let at-row : (e : Holder) → by ≡ H.By e → e .row ≡ row = λ e n. ap (λ (y : Holder). y .row) (d .holder e n) in
+          let goes-on : (m : Ident Spot) → pl ≡ m .place .number → Leads (maybe (readTy 63 true)) t (here s₁) (λ y d. Did d (onward (analyzeHeld by c m) (maybeB tyB) y a₁) r o₂ l w₂) = λ m n. kt .does h c m a₁ (record {
+            member = λ e u. the-member (ap (λ (y : Holder). y .«is_member») (d .holder e u)) (ap (λ (y : Holder). y .member) (d .holder e u) ∙ n);
+            low = λ e u g. omega (arith, at-row e u, in₁ g .low, i₁ .when g .tables .containers .counted);
+            is = λ e u g. row-at e (a₁ .st .containment .containers) (at-row e u) (in₁ g .is);
+          }) i₁ in
+          leads-at (sym (z .did .cur ∙ ap here q)) (leads-bind _ _ λ y f g. leads-got (record { place = p; ident = x; type = y }) (record {
+            cur = goes-on (anybody pl) refl .to y f g .cur;
+            is = is-when λ u. let m = told _ (z .told (good-name c p x y a u)) in is-same (λ _. member-held-is by c (m .0) p x y a (d .edges c (m .0) _ (m .1))) (goes-on (m .0) (m .2) .to y f g .is);
           }));
     }
+
+    module _ {s₁ : Walk} {by : Holding} {r : Walk} {o₂ w₂ : List ℕ} where
+      pub member-named : {pl : ℕ} → v ≡ E.Named s₁ pl → Decides true row pl by → TypesMember t by s₁ o₁ l w₁ r o₂ l w₂ → Under (InStructure row c) t (readParam 63 true) (memberWalk c) s o l w r o₂ l w₂
+      unfolding walkOf
+      member-named e d kt = typed-by (ap walkOf e) (λ y. told-named e) d kt
+
+      pub member-nameless : v ≡ E.Nameless s₁ → Decides false row 0 by → TypesMember t by s₁ o₁ l w₁ r o₂ l w₂ → Under (InStructure row c) t (readParam 63 true) (memberWalk c) s o l w r o₂ l w₂
+      unfolding walkOf
+      member-nameless e d kt = typed-by (ap walkOf e) (λ y. told-nameless e) d kt
+
+-- A MEMBER'S TYPE
+
+held-is : {by : Holding} {h : Holder} → by ≡ H.By h → (c i : Ident Spot) (x : Maybe Spot (Ty Spot)) (a : Ground) → onward (analyzeContained c (some i)) (maybeB tyB) x a ≡ onward (analyzeHeld by c i) (maybeB tyB) x a
+unfolding analyzeHeld analyzeContained heldBy S._>>=_
+held-is e c i x a = sym (ap (λ (b : Holding). onward (analyzeHeld b c i) (maybeB tyB) x a) e)
+
+alone-is : {by : Holding} → by ≡ H.Nobody → (c i : Ident Spot) (x : Maybe Spot (Ty Spot)) (a : Ground) → onward analyzeMaybeType (maybeB tyB) x a ≡ onward (analyzeHeld by c i) (maybeB tyB) x a
+unfolding analyzeHeld heldBy S._>>=_ S.ret
+alone-is e c i x a = sym (ap (λ (b : Holding). onward (analyzeHeld b c i) (maybeB tyB) x a) e)
+
+module _ {t : List ℕ} {by : Holding} {s : Walk} {o l w : List ℕ} {r : Walk} {o₁ w₁ : List ℕ} where
+  pub type-held : {h : Holder} → by ≡ H.By h → Contains t (maybe (readTy 63 true)) h s o l w r o₁ l w₁ → TypesMember t by s o l w r o₁ l w₁
+  type-held {h} e k = record { does = λ u c i a z is. record { to = λ x d g. let y = k .does u c (some i) (z .member h e) a (z .low h e) (z .is h e) is .to x d g in record { cur = y .cur; is = is-same (λ _. held-is e c i x a) (y .is) } } }
+
+  pub type-alone : by ≡ H.Nobody → Walks t (maybe (readTy 63 true)) (onward analyzeMaybeType (maybeB tyB)) s o l w r o₁ l w₁ → TypesMember t by s o l w r o₁ l w₁
+  type-alone e k = record { does = λ u c i a z is. record { to = λ x d g. let y = k .does u a is .to x d g in record { cur = y .cur; is = is-same (λ _. alone-is e c i x a) (y .is) } } }
 
 -- LISTS
 

@@ -1,18 +1,25 @@
 -- What the functions over parameters and members promise.
 use Prim.Native.Nat.{ℕ, _≤_, _<_}
 use mathlib.Core.Path.{_≡_}
+use mathlib.Core.Bool.{true}
 use mathlib.Core.List.{List, _++_}
-use mathlib.Core.Option.{none}
+use mathlib.Core.Option.{none, some}
 use lib.ListN.{length, getD}
 use Rattle.penne.specs.Reader.{Cur, Reader, _>>=_, ret, anEntry, counting}
-use Rattle.penne.specs.Tree.{Spot, Ident, Poison, Maybe, ok, err, Param}
-use Rattle.penne.specs.Read.{place, ident, maybe}
-use Rattle.penne.specs.Write.{placeB, identB, maybeB, listB, paramB}
-use Rattle.penne.specs.Variables.{inTurn, declareMaybe, analyzeParam, analyzeMember}
+use Rattle.penne.specs.Tree.{Spot, Ident, Poison, Maybe, ok, err, Ty, Param}
+use Rattle.penne.specs.Read.{place, ident, maybe, readTy}
+use Rattle.penne.specs.Write.{placeB, identB, tyB, maybeB, listB, paramB}
+use Rattle.penne.specs.State as S
+use Rattle.penne.specs.Scopes.{Pass}
+use Rattle.penne.specs.Variables.{analyzeMaybeType, inTurn, declareMaybe, analyzeParam, analyzeMember}
 use Rattle.tree.specs.Answers.{poisonNames, poisonPlaces}
 use Rattle.containers.specs.Table.{at}
 use Rattle.walk.specs.declared.state.Walk.{Walk}
+use Rattle.walk.specs.declared.edges.Holder.{Holder}
+use Rattle.walk.specs.declared.edges.Holding.{Holding}
+use Rattle.walk.specs.declared.edges.Holding.the-variants as H
 use Rattle.walk.specs.Walking.{here, Ground, Good, Is, onward, Did, Leads, Input}
+use Rattle.walk.specs.Calls.{Member, heldBy}
 use Rattle.variable_references.specs.declared.declaration.Entry.{Entry}
 use Rattle.variable_references.specs.declared.declaration.Entry.the-variants as E
 
@@ -46,6 +53,22 @@ memberWalk c x a = onward (analyzeMember c) paramB x a
 
 abbrev pub membersWalk : Ident Spot → List (Param Spot) → Ground → Ground
 membersWalk c xs a = onward (inTurn (analyzeMember c)) (listB paramB) xs a
+
+-- A MEMBER'S TYPE
+
+-- the type, then the edges that a holding stands for: of the structure c, by its member i
+unfoldable pub analyzeHeld : Holding → (c i : Ident Spot) → Maybe Spot (Ty Spot) → Pass Spot (Maybe Spot (Ty Spot))
+analyzeHeld by c i t = S._>>=_ (analyzeMaybeType t) (heldBy by c i)
+
+-- whoever holds it is c, by its member i
+pub record Held (by : Holding) (c i : Ident Spot) (s : Walk) (a : Ground) : Type 0 where
+  pub member : (h : Holder) → by ≡ H.By h → Member h (some i)
+  pub low : (h : Holder) → by ≡ H.By h → Good a → h .row < s .script .containers
+  pub is : (h : Holder) → by ≡ H.By h → Good a → (at (a .st .containment .containers) (h .row)) .identifier ≡ c
+
+-- member_type
+pub record TypesMember (t : List ℕ) (by : Holding) (s : Walk) (o l w : List ℕ) (r : Walk) (o′ l′ w′ : List ℕ) : Type 0 where
+  pub does : Input t → (c i : Ident Spot) (a : Ground) → Held by c i s a → Is s o l w a → Leads (maybe (readTy 63 true)) t (here s) (λ x d. Did d (onward (analyzeHeld by c i) (maybeB tyB) x a) r o′ l′ w′)
 
 -- THE NAME OF AN ENTRY
 

@@ -24,8 +24,10 @@ use tree::number::number;
 use types::contained_type;
 use types::maybe_type;
 use walk::edges::Holder;
+use walk::edges::Holding;
 use walk::edges::container_at;
 use walk::edges::find_in;
+use walk::edges::member_holder;
 use walk::fault::Fault;
 use walk::fault::duplicate;
 use walk::items::copy_poison;
@@ -53,7 +55,7 @@ ghost use Rattle.walk.specs.Walking.{say, Walks};
 ghost use Rattle.variable_references.specs.Declaring.{declWalk};
 ghost use Rattle.variable_references.specs.Heading.{HeadPlaces, Heads, ContainerBefore, FunctionBefore, DeclaredBefore, dropWalk, begunContainer, begunFunction, NewContainer, NewFunction, Arm, Heading, Keeps, constantParts, functionParts, headParts, structureParts, own, Starts, MainFlag};
 ghost use Rattle.penne.specs.Reader.{listed};
-ghost use Rattle.variable_references.specs.Entering.{Outside, InStructure, Under, paramWalk, paramsWalk, memberWalk, membersWalk, DeclaresEntry, NamesEntry};
+ghost use Rattle.variable_references.specs.Entering.{Outside, InStructure, Under, paramWalk, paramsWalk, memberWalk, membersWalk, TypesMember, DeclaresEntry, NamesEntry};
 
 pub fn declaration(
     tree: &[u8],
@@ -511,14 +513,23 @@ fn member(tree: &[u8], answer: &mut [u8], work: &mut [u32], st: Walk, row: u32) 
     let named = entry_name(tree, answer, work, st, 6);
     match named {
         Entry::Named(s, place) => {
-            let holder = Holder {
-                row: row as usize,
-                is_member: true,
-                member: place,
-            };
-            contained_type(tree, answer, work, s, holder, 63)
+            let by = member_holder(true, row as usize, place);
+            member_type(tree, answer, work, s, by)
         }
-        Entry::Nameless(s) => maybe_type(tree, answer, work, s, 63),
+        Entry::Nameless(s) => {
+            let by = member_holder(false, row as usize, 0);
+            member_type(tree, answer, work, s, by)
+        }
         Entry::Unread(s) => s,
+    }
+}
+
+// A member's type, with its edges where somebody holds them.
+fn member_type(tree: &[u8], answer: &mut [u8], work: &mut [u32], st: Walk, by: Holding) -> Walk
+    ensures { λ r. ⌜ ((l : List ℕ) → TypesMember (now (tree .entry)) by st (now (answer .entry)) l (now (work .entry)) r (now (answer .exit)) l (now (work .exit))) ⌝ }
+{
+    match by {
+        Holding::By(holder) => contained_type(tree, answer, work, st, holder, 63),
+        Holding::Nobody => maybe_type(tree, answer, work, st, 63),
     }
 }

@@ -2,29 +2,28 @@
 -- `variable_references::declaration/member` meets its contract. Assumes nothing.
 use borrow.Author.Needs.{needs}
 use native.Mathlib.Omega.{arith}
-use mathlib.Core.Path.{refl, _∙_}
-use mathlib.Core.Bool.{true}
-use Rattle.variable_references.proofs.Params.{member-unread, member-nameless, member-named}
+use mathlib.Core.Path.{_∙_}
+use Rattle.variable_references.proofs.Params.{member-unread, member-named, member-nameless}
 use Rattle.variable_references.proofs.declaration.member.Statement.{statement}
 use Rattle.variable_references.proofs.declaration.member.Tie as tie
 
 same-length : tie.Need-same-length
-same-length c = (c .before .before .before .before .contained-type .kept .1 .0) ∙ (c .before .before .before .before .before .before .before .before .before .before .before .before .before .before .entry-name .kept .1 .0)
+same-length c = (c .before .before .before .before .member-type .kept .1 .0) ∙ (c .before .before .before .before .before .before .before .before .before .before .before .before .before .before .before .entry-name .kept .1 .0)
 
 same-length-2 : tie.Need-same-length-2
-same-length-2 c = (c .before .before .before .before .contained-type .kept .1 .1 .0) ∙ (c .before .before .before .before .before .before .before .before .before .before .before .before .before .before .entry-name .kept .1 .1 .0)
+same-length-2 c = (c .before .before .before .before .member-type .kept .1 .1 .0) ∙ (c .before .before .before .before .before .before .before .before .before .before .before .before .before .before .before .entry-name .kept .1 .1 .0)
 
 returns : tie.Need-returns
-returns c = λ n l. member-named (c .before .before .before .before .before .before .before .before .before .before .before .before .before .before .entry-name .ensures) (c .before .before .before .before .before .before .before .before .named .given .1) refl ((c .before .before .before .before .contained-type .ensures) l)
+returns c = λ n l. member-named (c .before .before .before .before .before .before .before .before .before .before .before .before .before .before .before .entry-name .ensures) (c .before .before .before .before .before .before .before .before .before .named .given .1) (c .before .before .before .before .before .before .before .member-holder .ensures) ((c .before .before .before .before .member-type .ensures) l)
 
 same-length-3 : tie.Need-same-length-3
-same-length-3 c = (c .before .before .before .before .maybe-type .kept .1 .0) ∙ (c .before .before .before .before .before .before .before .before .before .before .before .before .before .before .entry-name .kept .1 .0)
+same-length-3 c = (c .before .before .before .before .member-type2 .kept .1 .0) ∙ (c .before .before .before .before .before .before .before .before .before .before .before .before .before .before .before .entry-name .kept .1 .0)
 
 same-length-4 : tie.Need-same-length-4
-same-length-4 c = (c .before .before .before .before .maybe-type .kept .1 .1 .0) ∙ (c .before .before .before .before .before .before .before .before .before .before .before .before .before .before .entry-name .kept .1 .1 .0)
+same-length-4 c = (c .before .before .before .before .member-type2 .kept .1 .1 .0) ∙ (c .before .before .before .before .before .before .before .before .before .before .before .before .before .before .before .entry-name .kept .1 .1 .0)
 
 returns-2 : tie.Need-returns-2
-returns-2 c = λ n l. member-nameless (c .before .before .before .before .before .before .before .before .before .before .before .before .before .before .entry-name .ensures) (c .before .before .before .before .before .before .before .before .named2 .given .1) ((c .before .before .before .before .maybe-type .ensures) true l)
+returns-2 c = λ n l. member-nameless (c .before .before .before .before .before .before .before .before .before .before .before .before .before .before .before .entry-name .ensures) (c .before .before .before .before .before .before .before .before .before .named2 .given .1) (c .before .before .before .before .before .before .before .member-holder2 .ensures) ((c .before .before .before .before .member-type2 .ensures) l)
 
 same-length-5 : tie.Need-same-length-5
 same-length-5 c = (c .before .before .before .before .before .before .before .entry-name .kept .1 .0)
@@ -36,4 +35,4 @@ returns-3 : tie.Need-returns-3
 returns-3 c = λ n l. member-unread (c .before .before .before .before .before .before .before .entry-name .ensures) (c .before .named3 .given .1)
 
 pub member-spec : {M : Type 1} → statement M
-member-spec = tie.close (tie.spec (λ c κs. search needs) (λ c. search needs) (λ c κs. search needs) (λ c. search needs) (λ c κs. search needs) (λ c. search needs) same-length same-length-2 returns same-length-3 same-length-4 returns-2 same-length-5 same-length-6 returns-3)
+member-spec = tie.close (tie.spec (λ c κs. search needs) (λ c. search needs) (λ c κs. search needs) (λ c κs. search needs) (λ c. search needs) (λ c κs. search needs) (λ c κs. search needs) (λ c. search needs) same-length same-length-2 returns same-length-3 same-length-4 returns-2 same-length-5 same-length-6 returns-3)
