@@ -14,9 +14,8 @@ use tree::counts::Counts;
 use tree::counts::Passed;
 use tree::counts::count;
 use tree::counts::declaration_counts;
-use tree::counts::entry;
-use tree::counts::pass;
 use tree::counts::statement_counts;
+use tree::declaration::parameters;
 use tree::field::Identified;
 use tree::field::operator;
 use tree::field::past_identifier;
@@ -26,15 +25,12 @@ use tree::node::expression;
 use tree::number::Read;
 use tree::number::below;
 use tree::number::number;
-use tree::poison::maybe_identifier;
 use tree::statement::stmt;
-use tree::value_type::maybe_type;
 ghost use Prim.Native.Nat.{ℕ};
-ghost use mathlib.Core.Bool.{false};
 ghost use Rattle.penne.specs.Tree.{goto, label};
 ghost use Rattle.penne.specs.Reader.{listed};
-ghost use Rattle.penne.specs.Read.{readStmt, readJump, readIf, readBlock, elseOf, readParam, readDecl, readFunction};
-ghost use Rattle.tree.specs.Answers.{cursor, countsOf, Passes};
+ghost use Rattle.penne.specs.Read.{readStmt, readJump, readIf, readBlock, elseOf, readDecl, readFunction};
+ghost use Rattle.tree.specs.Answers.{cursor, countsOf};
 ghost use Rattle.label_references.specs.Visit.{Shows};
 ghost use Rattle.label_references.specs.Pass.{Starts, LaysBody};
 ghost use Rattle.label_references.specs.Lay.{SetsRow, Lays, LaysKind, LaysLeaf, LaysElse, LaysList, EndsAt};
@@ -105,7 +101,7 @@ fn inside_function(tree: &[u8], names: u32, at: usize, counts: Counts) -> Start
     let Read::Number(_, c) = identifier else {
         return Start::Without;
     };
-    let list = parameters(tree, names, counts, c);
+    let list = parameters(tree, names, counts, false, c);
     let Passed::To(d, after) = list else {
         return Start::Without;
     };
@@ -117,46 +113,6 @@ fn inside_function(tree: &[u8], names: u32, at: usize, counts: Counts) -> Start
         return Start::At(e, after);
     }
     Start::Without
-}
-
-fn parameters(tree: &[u8], names: u32, counts: Counts, at: usize) -> Passed
-    ensures { λ r. ⌜ Passes (listed (readParam 63 false)) (now (tree .entry)) names counts at r ⌝ }
-{
-    let count = number(tree, at);
-    let Read::Number(n, a) = count else {
-        return pass(counts, count);
-    };
-    let mut rest = n;
-    let mut cur = a;
-    let mut so_far = counts;
-    while rest != 0 {
-        let one = parameter(tree, names, so_far, cur);
-        let Passed::To(next, more) = one else {
-            return one;
-        };
-        cur = next;
-        so_far = more;
-        rest -= 1;
-    }
-    Passed::To(cur, so_far)
-}
-
-fn parameter(tree: &[u8], names: u32, counts: Counts, at: usize) -> Passed
-    ensures { λ r. ⌜ Passes (readParam 63 false) (now (tree .entry)) names counts at r ⌝ }
-{
-    let place = number(tree, at);
-    let Read::Number(_, a) = place else {
-        return pass(counts, place);
-    };
-    let more = count(counts, entry());
-    let Counted::Are(c) = more else {
-        return Passed::Refused(8, at);
-    };
-    let identifier = maybe_identifier(tree, names, a);
-    let Read::Number(_, b) = identifier else {
-        return pass(c, identifier);
-    };
-    pass(c, maybe_type(tree, names, false, b, 63))
 }
 
 // A list of statements.

@@ -153,7 +153,7 @@ fn import(tree: &[u8], at: usize) -> Read
 }
 
 // A list of parameters, or of members: then `own` is set, and kind 23 is refused in their types.
-fn parameters(tree: &[u8], names: u32, counts: Counts, own: bool, at: usize) -> Passed
+pub fn parameters(tree: &[u8], names: u32, counts: Counts, own: bool, at: usize) -> Passed
     ensures { λ r. ⌜ Passes (listed (readParam 63 own)) (now (tree .entry)) names counts at r ⌝ }
 {
     let count = number(tree, at);
