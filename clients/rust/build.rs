@@ -8,7 +8,14 @@ fn main() {
     let here = PathBuf::from(env::var("CARGO_MANIFEST_DIR").unwrap());
     let folder = env::var("HURDLEBRAID_LIB").unwrap_or("../../target/staticlib".to_string());
     let folder = here.join(folder);
-    println!("cargo:rerun-if-changed={}", folder.join("libhurdlebraid.a").display());
+    let archive = folder.join("libhurdlebraid.a");
+    if !archive.is_file() {
+        panic!(
+            "no {}: `rt staticlib hurdlebraid` writes it; HURDLEBRAID_LIB names another folder",
+            archive.display()
+        );
+    }
+    println!("cargo:rerun-if-changed={}", archive.display());
     println!("cargo:rustc-link-search=native={}", folder.display());
     println!("cargo:rustc-link-lib=static=hurdlebraid");
 }

@@ -5,36 +5,9 @@
 
 use crate::generate::dice::Dice;
 use crate::passes::Room;
-
-extern "C" {
-    fn hurdlebraid_analyze(
-        tree: *const u8,
-        tree_length: usize,
-        answer: *mut u8,
-        answer_length: usize,
-        list: *mut u32,
-        list_length: usize,
-        work: *mut u32,
-        work_length: usize,
-        outcome: *mut u64,
-        outcome_length: usize,
-    );
-    fn hurdlebraid_container_depth(
-        tree: *const u8,
-        tree_length: usize,
-        declaration: u32,
-        max: u32,
-        outcome: *mut u64,
-        outcome_length: usize,
-    );
-    fn hurdlebraid_structure_name(
-        tree: *const u8,
-        tree_length: usize,
-        declaration: u32,
-        outcome: *mut u64,
-        outcome_length: usize,
-    );
-}
+use hurdlebraid::raw::{
+    hurdlebraid_analyze, hurdlebraid_container_depth, hurdlebraid_structure_name,
+};
 
 /// The library's calls run in a thread with this much stack.
 pub const STACK: usize = 256 << 10;

@@ -1,5 +1,6 @@
 //! The scoper of Penne scripts, for Rust: safe calls over libhurdlebraid.a.
 
+use raw::{hurdlebraid_analyze, hurdlebraid_container_depth, hurdlebraid_structure_name};
 use std::fmt;
 
 /// No less work memory will do, in words.
@@ -130,33 +131,36 @@ fn values([number, place, one, other]: [u64; 4]) -> Result<(u64, u64), Refusal> 
     }
 }
 
-// A slice is two arguments: where it is, and how many elements it has.
-extern "C" {
-    fn hurdlebraid_analyze(
-        tree: *const u8,
-        tree_bytes: usize,
-        answer: *mut u8,
-        answer_bytes: usize,
-        list: *mut u32,
-        list_words: usize,
-        work: *mut u32,
-        work_words: usize,
-        outcome: *mut u64,
-        outcome_words: usize,
-    );
-    fn hurdlebraid_container_depth(
-        tree: *const u8,
-        tree_bytes: usize,
-        declaration: u32,
-        max: u32,
-        outcome: *mut u64,
-        outcome_words: usize,
-    );
-    fn hurdlebraid_structure_name(
-        tree: *const u8,
-        tree_bytes: usize,
-        declaration: u32,
-        outcome: *mut u64,
-        outcome_words: usize,
-    );
+/// The calls as C sees them. A slice is two arguments: where it is, and how many
+/// elements it has.
+pub mod raw {
+    extern "C" {
+        pub fn hurdlebraid_analyze(
+            tree: *const u8,
+            tree_bytes: usize,
+            answer: *mut u8,
+            answer_bytes: usize,
+            list: *mut u32,
+            list_words: usize,
+            work: *mut u32,
+            work_words: usize,
+            outcome: *mut u64,
+            outcome_words: usize,
+        );
+        pub fn hurdlebraid_container_depth(
+            tree: *const u8,
+            tree_bytes: usize,
+            declaration: u32,
+            max: u32,
+            outcome: *mut u64,
+            outcome_words: usize,
+        );
+        pub fn hurdlebraid_structure_name(
+            tree: *const u8,
+            tree_bytes: usize,
+            declaration: u32,
+            outcome: *mut u64,
+            outcome_words: usize,
+        );
+    }
 }
