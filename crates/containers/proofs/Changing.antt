@@ -1,6 +1,6 @@
 -- Containers that are changed, each by itself, and keep their identifiers.
 use mathlib.Core.Path.{_≡_, refl, sym, ap, _∙_}
-use mathlib.Core.Bool.{Bool, true, false, _&&_, _||_}
+use mathlib.Core.Bool.{Bool, true, false, _&&_, _||_, or-false}
 use mathlib.Core.List.{List, [], _∷_, map}
 use mathlib.Core.Logic.{_⊎_, inl, inr}
 use Prim.Native.Nat.{ℕ, zero, suc, _≤_, _<_}
@@ -13,8 +13,9 @@ use Rattle.memory.specs.Rows.{member}
 use Rattle.penne.specs.Tree.{Spot, Ident}
 use Rattle.penne.specs.Find.{isIn}
 use Rattle.penne.specs.Containers.{Container, idOf, containedIdsOf, joined, joinWhere}
+use Rattle.penne.proofs.Booleans.{same-bool, or-case}
 use Rattle.containers.specs.Table.{at, idAt, idsAt, IsRow, Known, Sets, isEdge, Edges}
-use Rattle.containers.proofs.Lists.{both-ways, or-false, or-true, and-true, in-union, at-map}
+use Rattle.containers.proofs.Lists.{and-true, in-union, at-map}
 
 -- THE CONTAINER WITH AN ID
 
@@ -33,7 +34,7 @@ contained-at cs n d c i h e = ap (λ (k : ℕ). containedIdsOf k cs) e ∙ conta
 
 -- a test on ids is a test on rows
 pub same-row : {count : ℕ} (cs : List (Container Spot)) → Distinct count cs → (r c : ℕ) → r < count → c < count → eqb (idAt cs r) (idAt cs c) ≡ eqb r c
-same-row cs d r c h l = both-ways _ _ (λ e. eq-eqb r c (d r c h l (eqb-true _ _ e))) (λ e. eq-eqb _ _ (ap (idAt cs) (eqb-true r c e)))
+same-row cs d r c h l = same-bool _ _ (λ e. eq-eqb r c (d r c h l (eqb-true _ _ e))) (λ e. eq-eqb _ _ (ap (idAt cs) (eqb-true r c e)))
 
 -- EVERY CONTAINER BY ITSELF
 
@@ -105,7 +106,7 @@ unfolding joinWhere idsAt
 sets-where {count} {w} {w′} test ids cs n o long known bits past free = sets-map (joined-keeps test ids) cs n (long ∙ o .long)
     (λ r j h l. bits r j h l ∙ ap (λ (b : Bool). b || (test (at cs r) && isIn (idAt cs j) ids)) (o .bits r j h l) ∙ sym (in-joined (idAt cs j) (test (at cs r)) ids (at cs r)))
     past free
-    (λ r i h e. go r i h (or-true (isIn i ((at cs r) .containedIds)) (test (at cs r) && isIn i ids) (sym (in-joined i (test (at cs r)) ids (at cs r)) ∙ e)))
+    (λ r i h e. go r i h (or-case (isIn i ((at cs r) .containedIds)) (test (at cs r) && isIn i ids) (sym (in-joined i (test (at cs r)) ids (at cs r)) ∙ e)))
   where
     go : (r i : ℕ) → r < count → (isIn i ((at cs r) .containedIds) ≡ true) ⊎ (test (at cs r) && isIn i ids ≡ true) → Known count cs i
     go r i h (inl e) = o .closed r i h e

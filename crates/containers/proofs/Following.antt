@@ -1,6 +1,6 @@
 -- found_container_1: what is done to the rows is what foundContainer1 does to the containers.
 use mathlib.Core.Path.{_≡_, refl, sym, ap, subst, _∙_}
-use mathlib.Core.Bool.{Bool, true, false, _&&_, _||_}
+use mathlib.Core.Bool.{Bool, true, false, _&&_, _||_, or-false, or-true}
 use mathlib.Core.List.{List, [], _∷_, _++_}
 use mathlib.Core.Logic.{_⊎_, inl, inr}
 use mathlib.Core.Option.{Option}
@@ -16,12 +16,13 @@ use Rattle.memory.proofs.Bits.{inside-is}
 use Rattle.penne.specs.Tree.{Spot, Ident, Maybe, ok, err, poison}
 use Rattle.penne.specs.Find.{isIn, union}
 use Rattle.penne.specs.Containers.{Container, Containment, idOf, containedIdsOf, joined, joinWhere, cyclical, addedIds, addIds, foundContainer1}
+use Rattle.penne.proofs.Booleans.{or-case, and-false}
 use Rattle.containers.specs.declared.containers.Contained.{Contained}
 use Rattle.containers.specs.declared.containers.Contained.the-variants.{Fine}
 use Rattle.containers.specs.Table.{at, idAt, idsAt, IsRow, Known, Sets, isEdge, Edges, containedIn, edgesIn, Holds}
 use Rattle.containers.specs.Bits.{HandsOn, Joined, Took, had, has, not, TakesIn}
 use Rattle.containers.specs.Calls.{answerOf, Follows, FollowsRows}
-use Rattle.containers.proofs.Lists.{or-false, or-true, and-true, in-union, in-one, at-map, and-no, or-yes}
+use Rattle.containers.proofs.Lists.{and-true, in-union, in-one, at-map}
 use Rattle.containers.proofs.Parts.{put-part, put-word, put-before, put-behind, contained-long, edges-long}
 use Rattle.containers.proofs.Changing.{Distinct, contained-at, same-row, id-map, distinct-map, edges-map, joined-keeps, row-joined, sets-where}
 
@@ -54,7 +55,7 @@ module _ {count : ℕ} {w : List ℕ} (cs : List (Container Spot)) (n : length c
       ∙ ap (λ (b : Bool). member w x j || b) (in-one (idAt cs j) (xi .id) ∙ ap (eqb (idAt cs j)) ex ∙ same-row cs d j x k l)
 
   known-ids : (i : ℕ) → isIn i (idsOf xi cs) ≡ true → Known count cs i
-  known-ids i e = go (or-true (isIn i (containedIdsOf (xi .id) cs)) (isIn i (xi .id ∷ [])) (sym (in-union i _ _) ∙ e))
+  known-ids i e = go (or-case (isIn i (containedIdsOf (xi .id) cs)) (isIn i (xi .id ∷ [])) (sym (in-union i _ _) ∙ e))
     where
       go : (isIn i (containedIdsOf (xi .id) cs) ≡ true) ⊎ (isIn i (xi .id ∷ []) ≡ true) → Known count cs i
       go (inl q) = o .closed x i l (sym (ap (isIn i) (contained-at cs n d x (xi .id) l ex)) ∙ q)
@@ -113,7 +114,7 @@ module _ {count : ℕ} {w : List ℕ} (cs : List (Container Spot)) (n : length c
         (λ r j k m. p .here (q .long ∙ long) few r j k
         ∙ ap (λ (b : Bool). member w₁ r j || (b && member w₁ 128 j)) (sym (has-c r k))
         ∙ ap (λ (b : Bool). member w₁ r j || (isIn (ci .id) ((at (joinedTo ci xi cs) r) .containedIds) && b)) (q .spare j ∙ sym (in-ids j m) ∙ sym (ap (λ (i : ℕ). isIn i (idsOf xi cs)) (id₁ j m))))
-        (λ r j k m. p .here (q .long ∙ long) few r j k ∙ ap (λ (b : Bool). b || (member w₁ r c && member w₁ 128 j)) (joined-sets .past r j k m) ∙ ap (λ (b : Bool). member w₁ r c && b) (q .spare j ∙ beyond j m) ∙ and-no (member w₁ r c))
+        (λ r j k m. p .here (q .long ∙ long) few r j k ∙ ap (λ (b : Bool). b || (member w₁ r c && member w₁ 128 j)) (joined-sets .past r j k m) ∙ ap (λ (b : Bool). member w₁ r c && b) (q .spare j ∙ beyond j m) ∙ and-false (member w₁ r c))
         (λ r j k m. p .same r j k ∙ joined-sets .free r j k m)
 
 -- THE EDGES
@@ -132,7 +133,7 @@ edges-add {count} {w} {w′} {es} cs few d o c x h l a b ea eb q = record {
   long = q .long ∙ o .long;
   bits = λ r j k m. bit r j k m (ℕ-discrete r c) (ℕ-discrete j x);
   free = λ r j f. q .others r j (λ z. f (let e : r ≡ c = z .0 in omega arith) (let e : j ≡ x = z .1 in omega arith)) ∙ o .free r j f;
-  closed = λ u v e. closed u v (or-true (isEdge u v es) (eqb a u && eqb b v) (sym (edge-last u v a b es) ∙ e));
+  closed = λ u v e. closed u v (or-case (isEdge u v es) (eqb a u && eqb b v) (sym (edge-last u v a b es) ∙ e));
 }
   where
     tests : (r j : ℕ) → r < count → j < count → eqb a (idAt cs r) && eqb b (idAt cs j) ≡ eqb c r && eqb x j
@@ -142,11 +143,11 @@ edges-add {count} {w} {w′} {es} cs few d o c x h l a b ea eb q = record {
     bit r j k m (yes e) (yes f) =
         let long = o .long in
         ap (λ (i : ℕ). member w′ i j) e ∙ ap (member w′ c) f ∙ q .there ∙ inside-is w c x (omega arith) (omega arith)
-        ∙ sym (edge-last (idAt cs r) (idAt cs j) a b es ∙ ap (λ (p : Bool). isEdge (idAt cs r) (idAt cs j) es || p) (tests r j k m ∙ ap (λ (p : Bool). p && eqb x j) (eq-eqb c r (sym e)) ∙ eq-eqb x j (sym f)) ∙ or-yes (isEdge (idAt cs r) (idAt cs j) es))
+        ∙ sym (edge-last (idAt cs r) (idAt cs j) a b es ∙ ap (λ (p : Bool). isEdge (idAt cs r) (idAt cs j) es || p) (tests r j k m ∙ ap (λ (p : Bool). p && eqb x j) (eq-eqb c r (sym e)) ∙ eq-eqb x j (sym f)) ∙ or-true (isEdge (idAt cs r) (idAt cs j) es))
     bit r j k m (no e) f = q .others r j (λ z. e (z .0)) ∙ o .bits r j k m
         ∙ sym (edge-last (idAt cs r) (idAt cs j) a b es ∙ ap (λ (p : Bool). isEdge (idAt cs r) (idAt cs j) es || p) (tests r j k m ∙ ap (λ (p : Bool). p && eqb x j) (ne-eqb c r (λ z. e (sym z)))) ∙ or-false (isEdge (idAt cs r) (idAt cs j) es))
     bit r j k m (yes e) (no f) = q .others r j (λ z. f (z .1)) ∙ o .bits r j k m
-        ∙ sym (edge-last (idAt cs r) (idAt cs j) a b es ∙ ap (λ (p : Bool). isEdge (idAt cs r) (idAt cs j) es || p) (tests r j k m ∙ ap (λ (p : Bool). eqb c r && p) (ne-eqb x j (λ z. f (sym z))) ∙ and-no (eqb c r)) ∙ or-false (isEdge (idAt cs r) (idAt cs j) es))
+        ∙ sym (edge-last (idAt cs r) (idAt cs j) a b es ∙ ap (λ (p : Bool). isEdge (idAt cs r) (idAt cs j) es || p) (tests r j k m ∙ ap (λ (p : Bool). eqb c r && p) (ne-eqb x j (λ z. f (sym z))) ∙ and-false (eqb c r)) ∙ or-false (isEdge (idAt cs r) (idAt cs j) es))
 
     closed : (u v : ℕ) → (isEdge u v es ≡ true) ⊎ (eqb a u && eqb b v ≡ true) → Known count cs u × Known count cs v
     closed u v (inl e) = o .closed u v e

@@ -1,6 +1,6 @@
 -- The rows of bits: take_in and hand_on.
 use mathlib.Core.Path.{_≡_, refl, sym, ap, subst, _∙_}
-use mathlib.Core.Bool.{Bool, true, false, _&&_, _||_, not}
+use mathlib.Core.Bool.{Bool, true, false, _&&_, _||_, not, or-false, or-true}
 use mathlib.Core.List.{List}
 use Prim.Native.Nat.{ℕ, _+_, _≤_, _<_}
 use native.Mathlib.Decide.{decLt, ℕ-discrete}
@@ -8,11 +8,12 @@ use native.Mathlib.Omega.{arith}
 use lib.Dec.{eqb}
 use lib.ListN.{length}
 use borrow.Author.Tests.{eq-eqb, ne-eqb}
+use Rattle.penne.proofs.Booleans.{and-true}
 use Rattle.memory.specs.Rows.{member, inside, Adds, Joins, Removes}
 use Rattle.memory.proofs.Bits.{member-high, inside-is}
 use Rattle.containers.specs.declared.containers.Contained.the-variants.{Fine, Poisoned, Cyclical}
 use Rattle.containers.specs.Bits.{HandsTo, HandsOn, Joined, had, has, not as hasNot, TakesIn}
-use Rattle.containers.proofs.Lists.{or-false, and-yes, or-yes, and-not}
+use Rattle.containers.proofs.Lists.{and-not}
 
 -- 129 ROWS HAVE ALL BITS
 
@@ -21,7 +22,7 @@ in-room : (w : List ℕ) (a b j : ℕ) → length w ≡ 516 → b ≤ 128 → me
 in-room w a b j long h = go (decLt j 128)
   where
     go : Dec (j < 128) → member w a j && inside w b j ≡ member w a j
-    go (yes l) = ap (λ (t : Bool). member w a j && t) (inside-is w b j l (omega arith)) ∙ and-yes (member w a j)
+    go (yes l) = ap (λ (t : Bool). member w a j && t) (inside-is w b j l (omega arith)) ∙ and-true (member w a j)
     go (no l) = ap (λ (t : Bool). t && inside w b j) (member-high w a j (omega arith)) ∙ sym (member-high w a j (omega arith))
 
 pub joins-row : {a b : ℕ} {w w′ : List ℕ} → Joins a b w w′ → length w ≡ 516 → b ≤ 128 → (j : ℕ) → member w′ b j ≡ member w b j || member w a j
@@ -31,7 +32,7 @@ pub adds-row : {i k : ℕ} {w w′ : List ℕ} → Adds i k w w′ → length w 
 adds-row {i} {k} {w} {w′} o long h l j = go (ℕ-discrete j k)
   where
     go : Dec (j ≡ k) → member w′ i j ≡ member w i j || eqb j k
-    go (yes q) = ap (member w′ i) q ∙ o .there ∙ inside-is w i k l (omega arith) ∙ sym (ap (λ (t : Bool). member w i j || t) (eq-eqb j k q) ∙ or-yes (member w i j))
+    go (yes q) = ap (member w′ i) q ∙ o .there ∙ inside-is w i k l (omega arith) ∙ sym (ap (λ (t : Bool). member w i j || t) (eq-eqb j k q) ∙ or-true (member w i j))
     go (no q) = o .others i j (λ z. q (z .1)) ∙ sym (ap (λ (t : Bool). member w i j || t) (ne-eqb j k q) ∙ or-false (member w i j))
 
 -- hand_to

@@ -3,7 +3,6 @@ use mathlib.Core.Path.{_≡_, refl, sym, ap, _∙_}
 use mathlib.Core.Bool.{Bool, true, false, _&&_, _||_, not}
 use mathlib.Core.List.{List, [], _∷_, _++_, map}
 use mathlib.Core.Option.{Option, none, some}
-use mathlib.Core.Logic.{_⊎_, inl, inr}
 use Prim.Native.Nat.{ℕ, zero, suc, _+_, _<_}
 use native.Mathlib.Nat.{not-suc-le-zero, le-of-suc-le-suc}
 use native.Mathlib.Decide.{ℕ-discrete}
@@ -15,6 +14,8 @@ use borrow.Author.Tests.{eq-eqb, ne-eqb}
 use Rattle.penne.specs.Tree.{Spot}
 use Rattle.penne.specs.Find.{first, keep, isIn, union, minus}
 use Rattle.penne.specs.Containers.{Container, idOf}
+use Rattle.penne.proofs.Booleans.{and-false}
+use Rattle.penne.proofs.Searching.{first-hit, first-miss, keep-hit, keep-miss}
 use Rattle.containers.specs.Table.{noContainer, at, idAt, idsAt}
 
 -- TRUTH
@@ -26,35 +27,6 @@ pub false-is : (b : Bool) → (b ≡ true → ⊥) → b ≡ false
 false-is true f = absurd (f refl)
 false-is false f = refl
 
--- two tests that are true together are the same
-pub both-ways : (a b : Bool) → (a ≡ true → b ≡ true) → (b ≡ true → a ≡ true) → a ≡ b
-both-ways true b f g = sym (f refl)
-both-ways false true f g = sym (sym (g refl))
-both-ways false false f g = refl
-
-pub or-true : (a b : Bool) → a || b ≡ true → (a ≡ true) ⊎ (b ≡ true)
-or-true true b e = inl refl
-or-true false b e = inr e
-
-pub or-left : (a b : Bool) → a ≡ true → a || b ≡ true
-or-left a b e = rw e
-
-pub or-false : (a : Bool) → a || false ≡ a
-or-false true = refl
-or-false false = refl
-
-pub or-yes : (a : Bool) → a || true ≡ true
-or-yes true = refl
-or-yes false = refl
-
-pub and-no : (a : Bool) → a && false ≡ false
-and-no true = refl
-and-no false = refl
-
-pub and-yes : (a : Bool) → a && true ≡ a
-and-yes true = refl
-and-yes false = refl
-
 pub and-not : (a : Bool) → a && not a ≡ false
 and-not true = refl
 and-not false = refl
@@ -64,22 +36,6 @@ and-true true b e = (refl, e)
 and-true false b e = absurd (true-not-false e refl)
 
 -- THE FIRST
-
-pub first-hit : {A : Type 0} (f : A → Bool) (c : A) (cs : List A) → f c ≡ true → first f (c ∷ cs) ≡ some c
-unfolding first
-first-hit f c cs e = rw (e, first)
-
-pub first-miss : {A : Type 0} (f : A → Bool) (c : A) (cs : List A) → f c ≡ false → first f (c ∷ cs) ≡ first f cs
-unfolding first
-first-miss f c cs e = rw (e, first)
-
-pub keep-hit : {A : Type 0} (f : A → Bool) (c : A) (cs : List A) → f c ≡ true → keep f (c ∷ cs) ≡ c ∷ keep f cs
-unfolding keep
-keep-hit f c cs e = rw (e, keep)
-
-pub keep-miss : {A : Type 0} (f : A → Bool) (c : A) (cs : List A) → f c ≡ false → keep f (c ∷ cs) ≡ keep f cs
-unfolding keep
-keep-miss f c cs e = rw (e, keep)
 
 pub in-hit : (x y : ℕ) (l : List ℕ) → x ≡ y → isIn x (y ∷ l) ≡ true
 unfolding isIn
@@ -126,7 +82,7 @@ in-keep f x (y ∷ l) = go (f y) refl (ℕ-discrete x y) (in-keep f x l)
     go : (b : Bool) → f y ≡ b → Dec (x ≡ y) → isIn x (keep f l) ≡ isIn x l && f x → isIn x (keep f (y ∷ l)) ≡ isIn x (y ∷ l) && f x
     go true e (yes q) r = ap (isIn x) (keep-hit f y l e) ∙ in-hit x y (keep f l) q ∙ sym (ap (λ (b : Bool). b && f x) (in-hit x y l q) ∙ ap f q ∙ e)
     go true e (no q) r = ap (isIn x) (keep-hit f y l e) ∙ in-miss x y (keep f l) q ∙ r ∙ sym (ap (λ (b : Bool). b && f x) (in-miss x y l q))
-    go false e (yes q) r = ap (isIn x) (keep-miss f y l e) ∙ r ∙ ap (λ (b : Bool). isIn x l && b) (ap f q ∙ e) ∙ and-no (isIn x l) ∙ sym (ap (λ (b : Bool). b && f x) (in-hit x y l q) ∙ ap f q ∙ e)
+    go false e (yes q) r = ap (isIn x) (keep-miss f y l e) ∙ r ∙ ap (λ (b : Bool). isIn x l && b) (ap f q ∙ e) ∙ and-false (isIn x l) ∙ sym (ap (λ (b : Bool). b && f x) (in-hit x y l q) ∙ ap f q ∙ e)
     go false e (no q) r = ap (isIn x) (keep-miss f y l e) ∙ r ∙ sym (ap (λ (b : Bool). b && f x) (in-miss x y l q))
 
 pub in-none : (x : ℕ) (l : List ℕ) → l ≡ [] → isIn x l ≡ false

@@ -1,6 +1,6 @@
 -- determine_container_depths on the rows of bits: what a round resolves is marked in row 128, and taken out of all rows.
 use mathlib.Core.Path.{_≡_, refl, sym, ap, subst, _∙_}
-use mathlib.Core.Bool.{Bool, true, false, _&&_, _||_, not}
+use mathlib.Core.Bool.{Bool, true, false, _&&_, _||_, not, or-false}
 use mathlib.Core.List.{List}
 use Prim.Native.Nat.{ℕ, zero, suc, _+_, _≤_, _<_}
 use native.Mathlib.Decide.{decLt, ℕ-discrete}
@@ -9,10 +9,11 @@ use lib.Dec.{eqb, ltb}
 use lib.ListN.{length, getD, take, drop}
 use borrow.Author.Tests.{eq-eqb, ne-eqb, lt-ltb, le-ltb}
 use borrow.Rule.Slice.PartMut.{putMid, same-len-mid}
+use Rattle.penne.proofs.Booleans.{and-false, and-true}
 use Rattle.memory.specs.Rows.{member, noneBelow, vacant, Adds, Removes}
 use Rattle.containers.specs.Table.{containedIn, edgesIn}
 use Rattle.containers.specs.Depths.{OnlyRows, Clears, rowResolves, Resolves, Marks, MarksAll, NoneMarked, IsMarked, ReleasesRows, Releases}
-use Rattle.containers.proofs.Lists.{or-false, and-no, and-yes, and-not}
+use Rattle.containers.proofs.Lists.{and-not}
 use Rattle.containers.proofs.Parts.{put-part, put-word, put-behind, contained-long}
 use Rattle.containers.proofs.Joining.{adds-row}
 
@@ -92,7 +93,7 @@ module _ {w : List ℕ} {row : ℕ} {b : Bool} (r : Resolves w row b) where
     long = refl;
     only = λ e h. only-same w;
     same = λ e h i j l. refl;
-    marks = λ e h j. sym (ap (λ (t : Bool). member (containedIn w) 128 j || (eqb j row && t)) (sym (r .is e h) ∙ f) ∙ ap (λ (t : Bool). member (containedIn w) 128 j || t) (and-no (eqb j row)) ∙ or-false (member (containedIn w) 128 j));
+    marks = λ e h j. sym (ap (λ (t : Bool). member (containedIn w) 128 j || (eqb j row && t)) (sym (r .is e h) ∙ f) ∙ ap (λ (t : Bool). member (containedIn w) 128 j || t) (and-false (eqb j row)) ∙ or-false (member (containedIn w) 128 j));
   }
 
   pub marks-short : length w < 1668 → Marks row w w
@@ -105,7 +106,7 @@ module _ {w : List ℕ} {row : ℕ} {b : Bool} (r : Resolves w row b) where
     only = λ e l. back-only w ys h (o .long) e;
     same = λ e l i j k. ap (λ (v : List ℕ). member v i j) (back-part w ys h (o .long) e) ∙ o .others i j (λ z. let q : i ≡ 128 = z .0 in omega arith);
     marks = λ e l j. ap (λ (v : List ℕ). member v 128 j) (back-part w ys h (o .long) e) ∙ adds-row o (contained-long w e) (omega arith) l j
-        ∙ sym (ap (λ (t : Bool). member (containedIn w) 128 j || (eqb j row && t)) (sym (r .is e l) ∙ f) ∙ ap (λ (t : Bool). member (containedIn w) 128 j || t) (and-yes (eqb j row)));
+        ∙ sym (ap (λ (t : Bool). member (containedIn w) 128 j || (eqb j row && t)) (sym (r .is e l) ∙ f) ∙ ap (λ (t : Bool). member (containedIn w) 128 j || t) (and-true (eqb j row)));
   }
 
 -- mark_all: the loop

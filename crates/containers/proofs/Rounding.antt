@@ -9,32 +9,21 @@ use native.Mathlib.Omega.{arith}
 use lib.Dec.{eqb, ltb}
 use lib.ListN.{length, getD, length-map}
 use borrow.Author.Tests.{eq-eqb, ne-eqb, lt-ltb, le-ltb}
-use Rattle.memory.specs.Rows.{member, noneBelow, vacant}
+use Rattle.memory.specs.Rows.{member, vacant}
 use Rattle.penne.specs.Tree.{Spot, Ident}
 use Rattle.penne.specs.Find.{keep, isIn, minus}
 use Rattle.penne.specs.Containers.{Container, Containment, idOf, withContainers, resolves, settled, rounds, orPoisoned, determineContainerDepths, obtainContainerDepth}
+use Rattle.penne.proofs.Booleans.{same-bool}
+use Rattle.penne.proofs.Searching.{keep-hit, keep-miss}
+use Rattle.memory.proofs.Bits.{none-all, none-some}
 use Rattle.containers.specs.Table.{at, idAt, idsAt, kindOf, IsRow, Sets, Edges, containedIn, Holds}
 use Rattle.containers.specs.Depths.{OnlyRows, Clears, rowResolves, MarksAll, NoneMarked, Releases, Deepens, marked, orOne, DeepensMarked, PoisonsRest, Rounded, over, goes, Round, Rounds, Determines, TellsDepth}
-use Rattle.containers.proofs.Lists.{true-not-false, both-ways, and-true, in-none, in-hit, in-miss, keep-hit, keep-miss, in-minus, at-map, and-no}
+use Rattle.containers.proofs.Lists.{true-not-false, and-true, in-none, in-hit, in-miss, in-minus, at-map}
 use Rattle.containers.proofs.Changing.{Distinct, Keeps, id-map, distinct-map, edges-map, sets-map}
 use Rattle.containers.proofs.Following.{rows-same}
 use Rattle.containers.proofs.Parts.{contained-long}
 
 -- VACANT ROWS
-
-none-all : (f : ℕ → Bool) (n : ℕ) → ((j : ℕ) → j < n → f j ≡ false) → noneBelow n f ≡ true
-unfolding noneBelow
-none-all f zero h = refl
-none-all f (suc n) h = rw (h n (omega arith)) (none-all f n (λ j l. h j (omega arith)))
-
-none-some : (f : ℕ → Bool) (n j : ℕ) → j < n → f j ≡ true → noneBelow n f ≡ false
-unfolding noneBelow
-none-some f zero j h e = absurd (not-suc-le-zero h)
-none-some f (suc n) j h e = go (ℕ-discrete j n) (λ l. none-some f n j l e)
-  where
-    go : Dec (j ≡ n) → (j < n → noneBelow n f ≡ false) → noneBelow (suc n) f ≡ false
-    go (yes q) rest = let z : f n ≡ true = sym (ap f q) ∙ e in rw z
-    go (no q) rest = rw (rest (omega arith)) (and-no (not (f n)))
 
 vacant-all : (w : List ℕ) (i : ℕ) → ((j : ℕ) → j < 128 → member w i j ≡ false) → vacant w i ≡ true
 unfolding vacant
@@ -103,7 +92,7 @@ in-resolved (c ∷ cs) (suc r) h e = go (resolves c) refl (ℕ-discrete (idAt cs
     go false f q rest = ap (λ (l : List (Container Spot)). isIn (idAt cs r) (map idOf l)) (keep-miss resolves c cs f) ∙ rest
 
 resolved-row : {count : ℕ} (cs : List (Container Spot)) → length cs ≡ count → Distinct count cs → (j : ℕ) → j < count → isIn (idAt cs j) (resolvedIds cs) ≡ resolves (at cs j)
-resolved-row cs n d j h = both-ways _ _
+resolved-row cs n d j h = same-bool _ _
     (λ e. let r = resolved-in cs (idAt cs j) e in let b = r .below in let z : r .row ≡ j = d (r .row) j (omega arith) h (r .is) in sym (ap (λ (k : ℕ). resolves (at cs k)) z) ∙ r .yes)
     (λ e. in-resolved cs j (omega arith) e)
 

@@ -14,9 +14,10 @@ use Rattle.memory.specs.Rows.{member, bit, wordOf}
 use Rattle.penne.specs.Tree.{Spot, Ident}
 use Rattle.penne.specs.Find.{isIn, keep}
 use Rattle.penne.specs.Containers.{Container, Containment, idOf, withContainers, pushContainer, containedIdsOf, joined, joinWhere, addedIds, addIds, foundContainer1, resolves, settled, rounds, orPoisoned, determineContainerDepths}
+use Rattle.penne.proofs.Booleans.{and-false}
 use Rattle.containers.specs.Table.{at, idAt, containedIn, edgesIn, isEdge, Holds}
 use Rattle.containers.specs.Functions.{HoldsFunctions}
-use Rattle.containers.proofs.Lists.{at-map, at-before, at-last, true-not-false, and-no}
+use Rattle.containers.proofs.Lists.{at-map, at-before, at-last, true-not-false}
 use Rattle.containers.proofs.Changing.{joined-keeps}
 use Rattle.containers.proofs.Parts.{contained-long, edges-long}
 
@@ -25,7 +26,7 @@ use Rattle.containers.proofs.Parts.{contained-long, edges-long}
 -- words that are 0 have no members
 zero-member : (w : List ℕ) → ((p : ℕ) → getD w p 0 ≡ 0) → (i j : ℕ) → member w i j ≡ false
 unfolding member
-zero-member w z i j = ap (λ (x : ℕ). ltb j 128 && eqb (bit x (j % 32)) 1) (z (wordOf i j)) ∙ ap (λ (x : ℕ). ltb j 128 && eqb (x % 2) 1) (zero-div (2 ^ (j % 32))) ∙ and-no (ltb j 128)
+zero-member w z i j = ap (λ (x : ℕ). ltb j 128 && eqb (bit x (j % 32)) 1) (z (wordOf i j)) ∙ ap (λ (x : ℕ). ltb j 128 && eqb (x % 2) 1) (zero-div (2 ^ (j % 32))) ∙ and-false (ltb j 128)
 
 -- a part of them is 0 too
 zero-part : (a k : ℕ) (w : List ℕ) → ((p : ℕ) → getD w p 0 ≡ 0) → (p : ℕ) → getD (take k (drop a w)) p 0 ≡ 0
@@ -77,10 +78,10 @@ pub kept-id : {cs cs′ : List (Container Spot)} → Kept cs cs′ → (r : ℕ)
 unfolding idAt idOf
 kept-id k r h = ap (λ (i : Ident Spot). i .id) (k .same r h)
 
-kept-all : (cs : List (Container Spot)) → Kept cs cs
+pub kept-all : (cs : List (Container Spot)) → Kept cs cs
 kept-all cs = record { long = refl; same = λ r h. refl }
 
-kept-then : {a b c : List (Container Spot)} → Kept a b → Kept b c → Kept a c
+pub kept-then : {a b c : List (Container Spot)} → Kept a b → Kept b c → Kept a c
 kept-then {a} {b} {c} k l = let e = k .long in record { long = l .long ∙ e; same = λ r h. l .same r (omega arith) ∙ k .same r h }
 
 kept-map : (f : Container Spot → Container Spot) (cs : List (Container Spot)) → ((c : Container Spot) → (f c) .identifier ≡ c .identifier) → Kept cs (map f cs)

@@ -110,7 +110,7 @@ written-not {at = at} {v = v} e p x y = rw e (record { wrote = v; put = p; is = 
 -- CALLS
 
 -- a call's name does not depend on what the arguments changed, and changes nothing
-called-same : (i : Ident Spot) (b : ℕ) (s s′ : Analyzer Spot) → s′ .functionList ≡ s .functionList → useCalled i b s′ ≡ (useCalled i b s .0, s′)
+pub called-same : (i : Ident Spot) (b : ℕ) (s s′ : Analyzer Spot) → s′ .functionList ≡ s .functionList → useCalled i b s′ ≡ (useCalled i b s .0, s′)
 unfolding useCalled useFunction S.ret
 called-same i zero s s′ e = ap (λ (l : List (Ident Spot)). (useFunctionAt i (firstNamed (i .name) l), s′)) e
 called-same i (suc b) s s′ e = refl

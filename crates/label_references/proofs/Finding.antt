@@ -1,8 +1,7 @@
 -- The search for a label, and the leaves of the visit.
 use mathlib.Core.Path.{_≡_, refl, sym, ap, subst, _∙_}
-use mathlib.Core.Bool.{Bool, true, false}
-use mathlib.Core.List.{List, [], _∷_, _++_}
-use mathlib.Core.Option.{Option, none, some}
+use mathlib.Core.List.{List, [], _++_}
+use mathlib.Core.Option.{Option, none}
 use Prim.Native.Nat.{ℕ, zero, suc, _+_, _-_, _<_, _≤_}
 use native.Mathlib.Omega.{arith}
 use lib.Dec.{eqb}
@@ -10,19 +9,12 @@ use lib.ListN.{length, getD, set}
 use borrow.Author.Tests.{eq-eqb, ne-eqb}
 use Rattle.penne.specs.Tree.{Spot, Ident}
 use Rattle.penne.specs.Find.{first, firstNamed}
+use Rattle.penne.proofs.Searching.{first-hit, first-miss}
 use Rattle.label_references.specs.declared.labels.Labels as L
 use Rattle.label_references.specs.Outcomes.{gotoWord}
 use Rattle.label_references.specs.Table.{Along, stop, step, Stacked}
 use Rattle.label_references.specs.Visit.{Finds, InScope, NameOf, Sets, LabelWord, Declares}
 use Rattle.label_references.proofs.Along.{along-le}
-
-pub first-hit : {A : Type 0} (f : A → Bool) (x : A) (xs : List A) → f x ≡ true → first f (x ∷ xs) ≡ some x
-unfolding first
-first-hit f x xs h = rw (h, first)
-
-pub first-miss : {A : Type 0} (f : A → Bool) (x : A) (xs : List A) → f x ≡ false → first f (x ∷ xs) ≡ first f xs
-unfolding first
-first-miss f x xs h = rw (h, first)
 
 none-go : {w : List ℕ} {next i count : ℕ} {js : List (Ident Spot)} (name : ℕ) → Along (Stacked w next) i js count → count ≤ i → 0 ≡ gotoWord (firstNamed name js)
 unfolding firstNamed first gotoWord

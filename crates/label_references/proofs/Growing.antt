@@ -51,7 +51,7 @@ module _ {B : Type 0} {base : ℕ} {h : B → ℕ} where
   grows-bind {m = m} {f} k l = record { at = λ s c d x. leads-bind f m s d λ a e q. l a .at s c e (grown-then x (k .at s d d grown-none .to q)) }
 
 grows-keeps : {A : Type 0} {m : Reader A} {base : ℕ} {h : A → ℕ} → Keeps m → ((a : A) → h a ≤ base) → Grows base m h
-grows-keeps {m = m} k i = record { at = λ s c d x. record { to = λ {x = a} {c = e} q. let y : Grown _ c e = grown-keep x (k .at s d .to q) in record { more = omega (arith, y .more, i a); entries = y .entries; statements = y .statements } } }
+grows-keeps {m = m} k i = record { at = λ s c d x. record { to = λ {x = a} {d = e} q. let y : Grown _ c e = grown-keep x (k .at s d .to q) in record { more = omega (arith, y .more, i a); entries = y .entries; statements = y .statements } } }
 
 either-go : {A : Type 0} {base : ℕ} {h : A → ℕ} {a b : Reader A} → Grows base a h → Grows base b h → (k : ℕ) → Grows {A = A} base (elim k [ zero ↦ a | suc _ ↦ b ]) h
 either-go x y zero = x
@@ -65,7 +65,7 @@ grows-either x y = grows-keep (keeps-below 2) (either-go x y)
 such-go : {A : Type 0} (test : A → Cur → Bool) (n p : ℕ) (c : Cur) (q : Got A) → Same c q → Leads {A = A} (elim q [ got a next ↦ elim (test a next) [ true ↦ got a next | false ↦ refused n p ] | refused k p ↦ refused k p ]) (λ a d. (d .counts ≡ c .counts) × (test a d ≡ true))
 such-go test n p c (refused i j) h = leads-none _ refl
 such-go {A} test n p c (got a d) h = (elim (test a d) as (λ b. test a d ≡ b → Leads {A = A} (elim b [ true ↦ got a d | false ↦ refused n p ]) (λ a d. (d .counts ≡ c .counts) × (test a d ≡ true))) [
-  | true ↦ λ z. record { to = λ {x} {c = e} q. let u : a ≡ x = cc in let v : d ≡ e = cc in (h .to q, subst (λ (y : A). test y e ≡ true) u (subst (λ (y : Cur). test a y ≡ true) v z)) }
+  | true ↦ λ z. record { to = λ {x} {d = e} q. let u : a ≡ x = cc in let v : d ≡ e = cc in (h .to q, subst (λ (y : A). test y e ≡ true) u (subst (λ (y : Cur). test a y ≡ true) v z)) }
   | false ↦ λ z. leads-none _ refl
 ]) refl
 
@@ -83,7 +83,7 @@ unfolding counting counted
 counting-leads f {m} s c k = leads-bind _ (such m (λ a d. fits (plus (d .counts) (f a))) 8) s c λ a d q.
     let z = such-leads (λ a d. fits (plus (d .counts) (f a))) 8 s c k .to q in
     record {
-      to = λ {x} {c = e} h.
+      to = λ {x} {d = e} h.
           let u : a ≡ x = cc in
           let v : counted d (f a) ≡ e = cc in
           let w : e .counts ≡ plus (d .counts) (f a) = ap (λ (y : Cur). y .counts) (sym v) in
@@ -134,13 +134,14 @@ keeps-head : Keeps stmtHead
 unfolding stmtHead
 keeps-head = keeps-bind (keeps-below 9) λ n. keeps-ret _
 
+-- too deep a statement is none
+pub deep-go : (p : ℕ) (q : Got StmtKind) {Q : Stm Spot stmt → Cur → Type 0} → Leads {A = Stm Spot stmt} (elim q [ got a next ↦ refused 7 p | refused i j ↦ refused i j ]) Q
+deep-go p (got a e) = leads-none _ refl
+deep-go p (refused i j) = leads-none _ refl
+
 pub grows-stmt : (d : ℕ) → Grows 0 (readStmt d) labelled
 unfolding readStmt tooDeep
 grows-stmt zero = record { at = λ s c d x. deep-go (d .at) (stmtHead s d) }
-  where
-    deep-go : (p : ℕ) (q : Got StmtKind) {Q : Stm Spot stmt → Cur → Type 0} → Leads {A = Stm Spot stmt} (elim q [ got a next ↦ refused 7 p | refused i j ↦ refused i j ]) Q
-    deep-go p (got a e) = leads-none _ refl
-    deep-go p (refused i j) = leads-none _ refl
 grows-stmt (suc d) = grows-counting stmtCounts keeps-head λ k. grows-kind d (grows-stmt d) k
 
 -- DECLARATIONS
@@ -196,7 +197,7 @@ grows-decls zero = grows-ret _ (omega arith)
 grows-decls (suc n) = grows-bind one λ x. grows-bind (grows-decls n) λ xs. grows-ret _ (omega (arith, length-append (bodyLabels (bodyOf x)) (labelsInDecls xs)))
   where
     one : Grows 0 readDecl inDecl
-    one = record { at = λ s c d x. record { to = λ {x = a} {c = e} q. let y : Grown (0 + inDecl a) c e = grown-then x (grown-decl s d q) in record { more = omega (arith, y .more); entries = y .entries; statements = y .statements } } }
+    one = record { at = λ s c d x. record { to = λ {x = a} {d = e} q. let y : Grown (0 + inDecl a) c e = grown-then x (grown-decl s d q) in record { more = omega (arith, y .more); entries = y .entries; statements = y .statements } } }
 
 tree-grown : {s : List ℕ} {l : Layout} (t : LaidOut s l) → Grown (length (labelsInDecls (t .decls))) (cursor (l .first) (l .names) nothing) (cursor (l .depths) (l .names) (t .counts))
 tree-grown {s} {l} t = grows-decls (l .count) .at s _ _ grown-none .to (t .read)

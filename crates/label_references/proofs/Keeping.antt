@@ -29,7 +29,7 @@ pub keeps-bind : {A B : Type 0} {m : Reader A} {f : A → Reader B} → Keeps m 
 keeps-bind {m = m} {f} k h = record { at = λ s c. leads-bind f m s c λ x d q. record { to = λ e. h x .at s d .to e ∙ k .at s c .to q } }
 
 same-got : {A : Type 0} (a : A) (c d : Cur) → d .counts ≡ c .counts → Same c (got a d)
-same-got a c d h = record { to = λ {x} {c = b} e. let z : d ≡ b = cc in ap (λ (y : Cur). y .counts) (sym z) ∙ h }
+same-got a c d h = record { to = λ {x} {d = b} e. let z : d ≡ b = cc in ap (λ (y : Cur). y .counts) (sym z) ∙ h }
 
 such-go : {A : Type 0} (test : A → Cur → Bool) (n p : ℕ) (c : Cur) (q : Got A) → Same c q → Same {A = A} c (elim q [ got a next ↦ elim (test a next) [ true ↦ got a next | false ↦ refused n p ] | refused k p ↦ refused k p ])
 such-go test n p c (refused i j) h = h

@@ -6,6 +6,8 @@ use native.Mathlib.Omega.{arith}
 use Rattle.penne.specs.Tree.{Spot, Ident}
 use Rattle.penne.specs.Reader.{Counts, Cur, Got, got, refused, Reader, _>>=_, ret, num, below, many}
 use Rattle.penne.specs.Read.{ident, place}
+use Rattle.penne.proofs.Leading.{never as never-got}
+pub use Rattle.penne.proofs.Leading.{Leads}
 use Rattle.tree.specs.declared.number.Read.{Read}
 use Rattle.tree.specs.declared.number.Read.the-variants.{Number, Refused}
 use Rattle.tree.specs.declared.field.Identifier.{Identifier}
@@ -19,17 +21,6 @@ use Rattle.tree.specs.Answers.{cursor, endOf, forget, Gives, Reads, Ends, Skips
 use Rattle.tree.proofs.Chain.{after, never, never′, here, operator-same, places-same, reads}
 use Rattle.tree.proofs.Fields.{goes, stops}
 
--- whatever q reads, the claim holds of it
-pub record Leads {A : Type 0} (q : Got A) (P : A → Cur → Type 0) : Type 0 where
-  pub to : {x : A} {c : Cur} → q ≡ got x c → P x c
-
-never-got : {A X : Type 0} {x : A} {c : Cur} {i p : ℕ} → _≡_ {A = Got A} (refused i p) (got x c) → X
-never-got {A} e = never′ (ap forget-go e)
-  where
-    forget-go : Got A → Got (Unit {0})
-    forget-go (got a c) = got tt c
-    forget-go (refused i p) = refused i p
-
 pub leads-none : {A : Type 0} {P : A → Cur → Type 0} (q : Got A) {i p : ℕ} → q ≡ refused i p → Leads q P
 leads-none q e = record { to = λ h. never-got (sym e ∙ h) }
 
@@ -38,7 +29,7 @@ leads-same e h = record { to = λ x. h .to (sym e ∙ x) }
 
 pub leads-ret : {A : Type 0} {P : A → Cur → Type 0} (a : A) (s : List ℕ) (c : Cur) → P a c → Leads (ret a s c) P
 unfolding ret
-leads-ret {A} {P} a s c h = record { to = λ {x} {c = d} e. let u : a ≡ x = cc in let v : c ≡ d = cc in subst (λ (y : A). P y d) u (subst (λ (y : Cur). P a y) v h) }
+leads-ret {A} {P} a s c h = record { to = λ {x} {d = d} e. let u : a ≡ x = cc in let v : c ≡ d = cc in subst (λ (y : A). P y d) u (subst (λ (y : Cur). P a y) v h) }
 
 -- any reader, and what follows it
 bind-go : {A B : Type 0} {P : B → Cur → Type 0} (f : A → Reader B) (s : List ℕ) (q : Got A) → ((x : A) (c : Cur) → q ≡ got x c → Leads (f x s c) P) → Leads (after f s q) P

@@ -1,7 +1,7 @@
 -- The words of a tree say what the definition's label pass makes of it.
 use mathlib.Core.Path.{_≡_, refl, sym, ap, subst, _∙_}
 use mathlib.Core.Bool.{Bool, true, false}
-use mathlib.Core.List.{List, [], _∷_, _++_, map}
+use mathlib.Core.List.{List, [], _∷_, _++_, map, append-assoc, append-nil}
 use mathlib.Core.Option.{Option, none, some}
 use Prim.Native.Nat.{ℕ, zero, suc, _+_, _-_, _≤_, _<_}
 use native.Mathlib.Omega.{arith}
@@ -12,10 +12,10 @@ use borrow.Author.Tests.{le-leb, lt-leb}
 use Rattle.penne.specs.Find.{first, firstNamed, resolved}
 use Rattle.penne.specs.Tree.{Spot, Ident, poison, StmSort, stmt, Stm, nil′, cons′, declaration, assignment, methodCall, loop, goto, label, ifElse, block, badStmt, noElse, orElse, stmts, Maybe, ok, err, Body, Decl, constant, function, functionHead, structure, import, badDecl}
 use Rattle.penne.specs.Labels.{Labels, labels, useLabel, declareLabel, declared, popScope, labelsBody, labelsDecl, labelsDecls, labelReferences}
+use Rattle.penne.proofs.Searching.{first-hit, first-miss}
 use Rattle.label_references.specs.Outcomes.{gotoWord, labelWord, outcomes, labelsIn, statementsIn, bodyOf, bodyOutcomes, bodyLabels, outcomesDecls, labelsInDecls}
 use Rattle.label_references.specs.Table.{Along, stop, step}
 use Rattle.label_references.specs.Marked.{placeOf, markedGoto, markedLabel, rest, marked, markedBody, markedDecl, markedDecls, Numbered, Known, none-known, one-known}
-use Rattle.label_references.proofs.Finding.{first-hit, first-miss}
 use Rattle.label_references.proofs.Growing.{labels-few}
 use Rattle.tree.specs.declared.script.Layout.{Layout}
 use Rattle.tree.specs.Script.{LaidOut}
@@ -71,10 +71,6 @@ pub record Marks {s : StmSort} (all : List (Ident Spot)) (t : Stm Spot s) (l : L
   pub known : Known all (labels t l .1 .labelStack)
   pub next : n ≡ labels t l .1 .resolutionId
 
-assoc : (xs ys zs : List ℕ) → (xs ++ ys) ++ zs ≡ xs ++ (ys ++ zs)
-assoc [] ys zs = refl
-assoc (x ∷ xs) ys zs = ap (λ (r : List ℕ). x ∷ r) (assoc xs ys zs)
-
 pub marks : {s : StmSort} {all : List (Ident Spot)} (t : Stm Spot s) (l : Labels Spot) {n : ℕ} → Along (Numbered all) (l .resolutionId) (labelsIn t) n → Known all (l .labelStack) → Marks all t l n
 unfolding marked outcomes labels labelsIn rest declared popScope resolved
 marks nil′ l stop k = record { words = λ os. refl; known = k; next = refl }
@@ -86,7 +82,7 @@ marks {all = all} (cons′ t ts) l {n} a k =
       known = m₂ .known;
       next = m₂ .next;
       words = λ os.
-          ap (λ (v : List ℕ). marked all (cons′ t ts) v) (assoc (outcomes t (labels ts l .1)) (outcomes ts l) os) ∙
+          ap (λ (v : List ℕ). marked all (cons′ t ts) v) (append-assoc (outcomes t (labels ts l .1)) (outcomes ts l) os) ∙
           ap (λ (z : Stm Spot stmt × List ℕ). (cons′ (z .0) (marked all ts (z .1) .0), marked all ts (z .1) .1)) (m₂ .words (outcomes ts l ++ os)) ∙
           ap (λ (z : Stm Spot _ × List ℕ). (cons′ (labels t (labels ts l .1) .0) (z .0), z .1)) (m .words os);
     }
@@ -108,7 +104,7 @@ marks {all = all} (ifElse p op q r x y t e) l {n} a k =
       known = m₂ .known;
       next = m₂ .next;
       words = λ os.
-          ap (λ (v : List ℕ). marked all (ifElse p op q r x y t e) (0 ∷ v)) (assoc (outcomes t l) (outcomes e (labels t l .1)) os) ∙
+          ap (λ (v : List ℕ). marked all (ifElse p op q r x y t e) (0 ∷ v)) (append-assoc (outcomes t l) (outcomes e (labels t l .1)) os) ∙
           ap (λ (z : Stm Spot stmt × List ℕ). (ifElse p op q r x y (z .0) (marked all e (z .1) .0), marked all e (z .1) .1)) (m .words (outcomes e (labels t l .1) ++ os)) ∙
           ap (λ (z : Stm Spot _ × List ℕ). (ifElse p op q r x y (labels t l .0) (z .0), z .1)) (m₂ .words os);
     }
@@ -147,17 +143,9 @@ marks-decls {all} (d ∷ ds) l {n} a k os =
     let s = split (bodyLabels (bodyOf d)) (labelsInDecls ds) a in
     let m = marks-decl d l (s .left) k in
     let m₂ = marks-decls ds (labelsDecl d l .1) (subst (λ (i : ℕ). Along (Numbered all) i (labelsInDecls ds) n) (m .next) (s .right)) (m .known) os in
-    ap (λ (v : List ℕ). markedDecls all (d ∷ ds) v) (assoc (bodyOutcomes (bodyOf d) l) (outcomesDecls ds (labelsDecl d l .1)) os) ∙
+    ap (λ (v : List ℕ). markedDecls all (d ∷ ds) v) (append-assoc (bodyOutcomes (bodyOf d) l) (outcomesDecls ds (labelsDecl d l .1)) os) ∙
     ap (λ (z : Decl Spot × List ℕ). (z .0 ∷ markedDecls all ds (z .1) .0, markedDecls all ds (z .1) .1)) (m .words (outcomesDecls ds (labelsDecl d l .1) ++ os)) ∙
     ap (λ (z : List (Decl Spot) × List ℕ). (labelsDecl d l .0 ∷ z .0, z .1)) m₂
-
-assoc-labels : (xs ys zs : List (Ident Spot)) → (xs ++ ys) ++ zs ≡ xs ++ (ys ++ zs)
-assoc-labels [] ys zs = refl
-assoc-labels (x ∷ xs) ys zs = ap (λ (r : List (Ident Spot)). x ∷ r) (assoc-labels xs ys zs)
-
-append-none : (xs : List ℕ) → xs ++ [] ≡ xs
-append-none [] = refl
-append-none (x ∷ xs) = ap (λ (r : List ℕ). x ∷ r) (append-none xs)
 
 nth-go : (pre : List (Ident Spot)) (x : Ident Spot) (xs : List (Ident Spot)) (p : Spot) → getD (map (λ i. i .place) (pre ++ (x ∷ xs))) (length pre) p ≡ x .place
 nth-go [] x xs p = refl
@@ -171,7 +159,7 @@ place-go pre x xs p = let e : length pre + 1 - 1 ≡ length pre = omega arith in
 numbered-go : (pre xs : List (Ident Spot)) → length pre + length xs ≤ 1024 → Along (Numbered (pre ++ xs)) (length pre + 1) xs (length pre + 1 + length xs)
 numbered-go pre [] h = let e : length pre + 1 ≡ length pre + 1 + 0 = omega arith in subst (λ (i : ℕ). Along (Numbered (pre ++ [])) (length pre + 1) [] i) e stop
 numbered-go pre (x ∷ xs) h =
-    let f : (pre ++ (x ∷ [])) ++ xs ≡ pre ++ (x ∷ xs) = assoc-labels pre (x ∷ []) xs in
+    let f : (pre ++ (x ∷ [])) ++ xs ≡ pre ++ (x ∷ xs) = append-assoc pre (x ∷ []) xs in
     let c : length (pre ++ (x ∷ [])) ≡ length pre + 1 = length-append pre (x ∷ []) in
     let a = numbered-go (pre ++ (x ∷ [])) xs (omega arith) in
     let a₁ : Along (Numbered (pre ++ (x ∷ xs))) (length pre + 1 + 1) xs (length pre + 1 + 1 + length xs) = subst (λ (i : ℕ). Along (Numbered (pre ++ (x ∷ xs))) (i + 1) xs (i + 1 + length xs)) c (subst (λ (v : List (Ident Spot)). Along (Numbered v) (length (pre ++ (x ∷ [])) + 1) xs (length (pre ++ (x ∷ [])) + 1 + length xs)) f a) in
@@ -182,7 +170,7 @@ numbered-go pre (x ∷ xs) h =
 pub marked-is : (ds : List (Decl Spot)) → length (labelsInDecls ds) ≤ 1024 → markedDecls (labelsInDecls ds) ds (outcomesDecls ds (fresh 1)) .0 ≡ labelReferences ds
 unfolding labelReferences fresh
 marked-is ds h =
-    let e : outcomesDecls ds (fresh 1) ++ [] ≡ outcomesDecls ds (fresh 1) = append-none (outcomesDecls ds (fresh 1)) in
+    let e : outcomesDecls ds (fresh 1) ++ [] ≡ outcomesDecls ds (fresh 1) = append-nil (outcomesDecls ds (fresh 1)) in
     ap (λ (v : List ℕ). markedDecls (labelsInDecls ds) ds v .0) (sym e) ∙ ap (λ (z : List (Decl Spot) × List ℕ). z .0) (marks-decls ds (fresh 1) (numbered-go [] (labelsInDecls ds) (omega arith)) none-known [])
 
 -- of a tree that is read, whatever its declarations

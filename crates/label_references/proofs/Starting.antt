@@ -119,7 +119,7 @@ module _ (names : ℕ) (k : C.Counts) {s : List ℕ} {at : ℕ} {m₁ : Read} (h
     start-other {c} t z = starts-leads (decl-leads t (record { to = λ q. let (o, i) = bodiless-kind v z .at s (cursor n names (countsOf c)) .to q in no-start o (i ∙ stays-go t) }))
 
     pub start-function : {c : C.Counts} {r : Start} → y ≡ Are c → v ≡ 1 → Starts (declOf 63 (getD declKinds 1 kBadDecl) s (cursor n names (countsOf c))) s names (c .statements) r → Starts (readDecl s (cursor at names (countsOf k))) s names (k .statements) r
-    start-function {c} {r} t z l = starts-leads (decl-leads t (record { to = λ {x} {c = d} q. subst (λ (i : ℕ). StartOf s names i x d r) (stays-go t) (subst (λ (i : ℕ). Starts (declOf 63 (getD declKinds i kBadDecl) s (cursor n names (countsOf c))) s names (c .statements) r) (sym z) l .does q) }))
+    start-function {c} {r} t z l = starts-leads (decl-leads t (record { to = λ {x} {d = d} q. subst (λ (i : ℕ). StartOf s names i x d r) (stays-go t) (subst (λ (i : ℕ). Starts (declOf 63 (getD declKinds i kBadDecl) s (cursor n names (countsOf c))) s names (c .statements) r) (sym z) l .does q) }))
 
 -- INSIDE A FUNCTION
 

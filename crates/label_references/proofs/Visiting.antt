@@ -1,7 +1,7 @@
 -- The visit: what each of its steps does, and how they go together.
 use mathlib.Core.Path.{_≡_, refl, sym, ap, subst, _∙_}
 use mathlib.Core.Bool.{Bool, true, false}
-use mathlib.Core.List.{List, [], _∷_, _++_}
+use mathlib.Core.List.{List, [], _∷_, _++_, append-assoc, append-nil}
 use lib.Dec.{eqb}
 use mathlib.Core.Option.{Option, none, some}
 use Prim.Native.Nat.{ℕ, zero, suc, _+_, _-_, _<_, _≤_}
@@ -12,12 +12,12 @@ use Rattle.penne.specs.Tree.{Spot, Ident, stmt, Stm, ifElse, noElse, orElse, go
 use Rattle.penne.specs.Find.{first, firstNamed, resolved}
 use Rattle.penne.specs.Read.{toStms}
 use Rattle.penne.specs.Labels.{Labels, labels, popScope, declared}
+use Rattle.penne.proofs.Searching.{first-hit, first-miss}
 use Rattle.label_references.specs.declared.labels.Labels as L
 use Rattle.label_references.specs.Outcomes.{gotoWord, labelWord, outcomes, labelsIn}
 use Rattle.label_references.specs.Table.{Leaf, declares, assigns, calls, loops, bad, Row, Part, single, list, Rows, leaf-row, goto-row, label-row, if-row, else-row, block-row, no-rows, more-rows, turned, Along, stop, step, Told, Named, Stacked, Off}
 use Rattle.label_references.specs.Visit.{Held, Touches, Did, Visits, VisitsKind, VisitsList, outcomesBack, labelsBack, afterBack, Shows, Finds, Sets, LabelWord, Declares}
 use Rattle.label_references.proofs.Along.{along-append, along-length, along-le, along-map}
-use Rattle.label_references.proofs.Finding.{first-hit, first-miss}
 use Rattle.label_references.proofs.Rowing.{rows-le, rows-lt, rows-high, rows-below, rows-last, SameRow, rows-same}
 
 -- WHAT IS TOUCHED
@@ -388,27 +388,15 @@ module _ {left k other : ℕ} {a b : L.Labels} {w w₁ : List ℕ} (v : Visits l
 
 -- LISTS
 
-append-assoc-go : (xs ys zs : List ℕ) → (xs ++ ys) ++ zs ≡ xs ++ (ys ++ zs)
-append-assoc-go [] ys zs = refl
-append-assoc-go (x ∷ xs) ys zs = ap (λ (r : List ℕ). x ∷ r) (append-assoc-go xs ys zs)
-
-append-assoc-labels : (xs ys zs : List (Ident Spot)) → (xs ++ ys) ++ zs ≡ xs ++ (ys ++ zs)
-append-assoc-labels [] ys zs = refl
-append-assoc-labels (x ∷ xs) ys zs = ap (λ (r : List (Ident Spot)). x ∷ r) (append-assoc-labels xs ys zs)
-
-append-none : {A : Type 0} (xs : List A) → xs ++ [] ≡ xs
-append-none [] = refl
-append-none (x ∷ xs) = ap (λ (r : List _). x ∷ r) (append-none xs)
-
 outcomes-turned : (ts rs : List (Stm Spot stmt)) (l : Labels Spot) → outcomesBack (turned ts rs) l ≡ outcomesBack rs (labels (toStms ts) l .1) ++ outcomes (toStms ts) l
 unfolding outcomesBack turned toStms outcomes labels
-outcomes-turned [] rs l = sym (append-none (outcomesBack rs l))
-outcomes-turned (t ∷ ts) rs l = outcomes-turned ts (t ∷ rs) l ∙ append-assoc-go (outcomesBack rs (labels t (labels (toStms ts) l .1) .1)) (outcomes t (labels (toStms ts) l .1)) (outcomes (toStms ts) l)
+outcomes-turned [] rs l = sym (append-nil (outcomesBack rs l))
+outcomes-turned (t ∷ ts) rs l = outcomes-turned ts (t ∷ rs) l ∙ append-assoc (outcomesBack rs (labels t (labels (toStms ts) l .1) .1)) (outcomes t (labels (toStms ts) l .1)) (outcomes (toStms ts) l)
 
 labels-turned : (ts rs : List (Stm Spot stmt)) → labelsBack (turned ts rs) ≡ labelsIn (toStms ts) ++ labelsBack rs
 unfolding labelsBack turned toStms labelsIn
 labels-turned [] rs = refl
-labels-turned (t ∷ ts) rs = labels-turned ts (t ∷ rs) ∙ sym (append-assoc-labels (labelsIn (toStms ts)) (labelsIn t) (labelsBack rs))
+labels-turned (t ∷ ts) rs = labels-turned ts (t ∷ rs) ∙ sym (append-assoc (labelsIn (toStms ts)) (labelsIn t) (labelsBack rs))
 
 after-turned : (ts rs : List (Stm Spot stmt)) (l : Labels Spot) → afterBack (turned ts rs) l ≡ afterBack rs (labels (toStms ts) l .1)
 unfolding afterBack turned toStms labels
@@ -419,11 +407,11 @@ after-turned (t ∷ ts) rs l = after-turned ts (t ∷ rs) l
 pub did-turned : (ts : List (Stm Spot stmt)) (l : Labels Spot) {k k′ : ℕ} {a b : L.Labels} {w w′ : List ℕ} → Did k k′ (outcomesBack (turned ts []) l) (labelsBack (turned ts [])) (afterBack (turned ts []) l) a w b w′
     → Did k k′ (outcomes (toStms ts) l) (labelsIn (toStms ts)) (labels (toStms ts) l .1) a w b w′
 unfolding outcomesBack labelsBack afterBack
-did-turned ts l d = did-same (outcomes-turned ts [] l) (labels-turned ts [] ∙ append-none (labelsIn (toStms ts))) (after-turned ts [] l) d
+did-turned ts l d = did-same (outcomes-turned ts [] l) (labels-turned ts [] ∙ append-nil (labelsIn (toStms ts))) (after-turned ts [] l) d
 
 pub labels-length : (ts : List (Stm Spot stmt)) → length (labelsBack (turned ts [])) ≡ length (labelsIn (toStms ts))
 unfolding labelsBack
-labels-length ts = ap (λ (x : List (Ident Spot)). length x) (labels-turned ts [] ∙ append-none (labelsIn (toStms ts)))
+labels-length ts = ap (λ (x : List (Ident Spot)). length x) (labels-turned ts [] ∙ append-nil (labelsIn (toStms ts)))
 
 block-go : {left k k′ last : ℕ} {t : Stm Spot stmt} {l : Labels Spot} {a b : L.Labels} {w w′ : List ℕ} → Rows w (suc left) k (single t) k′ → getD w (6144 + k) 0 ≡ 7 → Held w a l → a .next + length (labelsIn t) ≤ 1025
     → Shows w 10240 k last → VisitsList left last a w b w′ → Did k k′ (outcomes t l) (labelsIn t) (labels t l .1) a w (record { count = a .count; next = b .next }) w′

@@ -169,12 +169,12 @@ and-false : (x : Bool) → x && false ≡ false
 and-false true = refl
 and-false false = refl
 
-none-all : (f : ℕ → Bool) (n : ℕ) → ((j : ℕ) → j < n → f j ≡ false) → noneBelow n f ≡ true
+pub none-all : (f : ℕ → Bool) (n : ℕ) → ((j : ℕ) → j < n → f j ≡ false) → noneBelow n f ≡ true
 unfolding noneBelow
 none-all f zero h = refl
 none-all f (suc n) h = rw (h n (omega arith)) (none-all f n (λ j l. h j (omega arith)))
 
-none-some : (f : ℕ → Bool) (n j : ℕ) → j < n → f j ≡ true → noneBelow n f ≡ false
+pub none-some : (f : ℕ → Bool) (n j : ℕ) → j < n → f j ≡ true → noneBelow n f ≡ false
 unfolding noneBelow
 none-some f zero j h e = absurd (not-suc-le-zero h)
 none-some f (suc n) j h e = go (ℕ-discrete j n) (λ l. none-some f n j l e)

@@ -11,6 +11,9 @@ use borrow.Author.Tests.{eqb-true, eqb-false, eq-eqb, ne-eqb}
 pub true-false : {B : Type 0} → true ≡ false → B
 true-false h = absurd (subst T h tt)
 
+pub some-same : {A : Type 0} {x y : A} → some x ≡ some y → x ≡ y
+some-same e = cc
+
 pub none-some : {A B : Type 0} (x : A) → none ≡ some x → B
 none-some x h = let z : true ≡ false = cc in true-false z
 
@@ -36,6 +39,10 @@ pub not-true : (a : Bool) → not a ≡ true → a ≡ false
 not-true true h = sym h
 not-true false h = refl
 
+pub not-false : (a : Bool) → not a ≡ false → a ≡ true
+not-false true h = refl
+not-false false h = sym h
+
 -- 1 is not 0: what `omega` finds where its facts cannot all hold
 pub one-zero : {B : Type 0} → _≡_ {A = ℕ} 1 0 → B
 one-zero z = true-false (let w : true ≡ false = cc in w)
@@ -57,8 +64,17 @@ pub never-true : (b : Bool) → (b ≡ true → true ≡ false) → b ≡ false
 never-true true f = f refl
 never-true false f = refl
 
+pub both-true : (a b : Bool) → a ≡ true → b ≡ true → (a && b) ≡ true
+both-true a b e f = rw (e, f)
+
 pub both-false : (a b : Bool) → a ≡ false → b ≡ false → (a || b) ≡ false
 both-false a b e f = rw (e, f)
+
+-- two tests that are true together are the same
+pub same-bool : (a b : Bool) → (a ≡ true → b ≡ true) → (b ≡ true → a ≡ true) → a ≡ b
+same-bool true b f g = sym (f refl)
+same-bool false true f g = g refl
+same-bool false false f g = refl
 
 pub bool-case : (b : Bool) → (b ≡ true) ⊎ (b ≡ false)
 bool-case true = inl refl

@@ -13,7 +13,7 @@ use Rattle.penne.specs.Labels.{Labels, popScope, useLabel, declareLabel,
 use Rattle.penne.specs.Tree.{Spot, Ident, StmSort, stmt, stmts, elseBranch, Stm, nil′, cons′, declaration, assignment, methodCall, loop, goto, label, ifElse, block, badStmt, noElse, orElse}
 use Rattle.penne.specs.Walks.{Act, useOf, run, jump, target, fork, past, Names, notBare, premise}
 use Rattle.penne.proofs.Skeleton.{Sk, seq, either, scoped}
-use Rattle.penne.proofs.Booleans.{or-case, and-left, and-right, true-false, none-some, or-left, or-right, one-zero, is-false}
+use Rattle.penne.proofs.Booleans.{or-case, and-left, and-right, true-false, none-some, or-left, or-right, one-zero, is-false, both-false}
 use Rattle.penne.proofs.SkeletonLabels.{Well, wSkip, wSeq, wJumps, wMarks, wEither, wScoped, jumpsTo, hasMark, hides, hides-has, Apart, aSeq, aEither, aScoped, qSeq, Quiet, qReads, qSkip, quiet-well, quiet-jump, quiet-mark, quiet-apart, aJumps, aMarks, aSkip, qRuns}
 use Rattle.penne.proofs.BodySkeleton.{ofUse, ofUses, sk}
 
@@ -65,16 +65,13 @@ lab-seq {l} {l₁} {l₂} {a} {c} o r q =
       rise = omega arith;
       marked = λ k h. ⊎-elim (λ e. let (f, g) = q .marked k e in (omega arith, omega arith)) (λ e. let (f, g) = r .marked k e in (omega arith, omega arith)) (or-case _ _ h);
       jumped = λ k h. ⊎-elim (λ e. ⊎-elim (λ f. ⊎-elim inl (λ g. inr (g .0, let z = g .1 in omega arith)) (r .stack k f)) (λ f. let z = f .0 in inr (omega arith, f .1)) (q .jumped k e)) (λ e. ⊎-elim inl (λ f. let z = f .1 in inr (f .0, omega arith)) (r .jumped k e)) (or-case _ _ h);
-      stack = λ k h. ⊎-elim (λ e. ⊎-elim inl (λ f. let z = f .1 in inr (f .0, omega arith, both _ _ (is-false _ (λ x. let (g, g′) = q .marked k (hides-has k a x) in omega arith)) (f .2))) (r .stack k e)) (λ e. let z = e .0 in inr (omega arith, e .1, both _ _ (e .2) (is-false _ (λ x. let (g, g′) = r .marked k (hides-has k c x) in omega arith)))) (q .stack k h);
+      stack = λ k h. ⊎-elim (λ e. ⊎-elim inl (λ f. let z = f .1 in inr (f .0, omega arith, both-false _ _ (is-false _ (λ x. let (g, g′) = q .marked k (hides-has k a x) in omega arith)) (f .2))) (r .stack k e)) (λ e. let z = e .0 in inr (omega arith, e .1, both-false _ _ (e .2) (is-false _ (λ x. let (g, g′) = r .marked k (hides-has k c x) in omega arith)))) (q .stack k h);
       noMark = λ z. true-false (sym z);
       well = wSeq (q .well) (r .well)
           (λ k h. is-false _ (λ x. let (g, g′) = q .marked k x in ⊎-elim (λ e. let w = o .below k e in omega arith) (λ e. let w = e .1 in omega arith) (r .jumped k h)))
           (λ k h. is-false _ (λ x. let (g, g′) = r .marked k (hides-has k c x) in ⊎-elim (λ e. ⊎-elim (λ f. let w = o .below k f in omega arith) (λ f. true-false (sym x ∙ f .2)) (r .stack k e)) (λ e. let w = e .0 in omega arith) (q .jumped k h)));
       apart = aSeq (q .apart) (r .apart) (λ k h. is-false _ (λ x. let (g, g′) = q .marked k h in let (f, f′) = r .marked k x in omega arith));
     }
-  where
-    both : (x y : Bool) → x ≡ false → y ≡ false → (x || y) ≡ false
-    both x y e f = rw (e, f)
 
 -- an If whose branches are no labels
 lab-either : {l l₁ l₂ : Labels Spot} {a c : Sk} → Below l → Labelled l l₁ a true → Labelled l₁ l₂ c true → Labelled l l₂ (either a c) true
@@ -94,14 +91,11 @@ lab-either {l} {l₁} {l₂} {a} {c} o r q =
       apart = aEither (r .apart) (q .apart) (λ k h. is-false _ (λ x. let (g, g′) = r .marked k h in let (f, f′) = q .marked k x in omega arith));
     }
   where
-    both : (x y : Bool) → x ≡ false → y ≡ false → (x || y) ≡ false
-    both x y e f = rw (e, f)
-
     over : (k : ℕ) → heldIn k (l₂ .labelStack) ≡ true → (heldIn k (l .labelStack) ≡ true) ⊎ ((l .resolutionId ≤ k) × (k < l₂ .resolutionId) × ((hasMark k a || hasMark k c) ≡ false))
     over k h =
         let y = r .rise in
         let y′ = q .rise in
-        ⊎-elim (λ e. ⊎-elim inl (λ f. let z = f .1 in inr (f .0, omega arith, both (hasMark k a) (hasMark k c) (r .noMark refl k e (f .0)) (is-false (hasMark k c) (λ x. let (g, g′) = q .marked k x in omega arith)))) (r .stack k e)) (λ e. let z = e .0 in inr (omega arith, e .1, both (hasMark k a) (hasMark k c) (is-false (hasMark k a) (λ x. let (g, g′) = r .marked k x in omega arith)) (q .noMark refl k h z))) (q .stack k h)
+        ⊎-elim (λ e. ⊎-elim inl (λ f. let z = f .1 in inr (f .0, omega arith, both-false (hasMark k a) (hasMark k c) (r .noMark refl k e (f .0)) (is-false (hasMark k c) (λ x. let (g, g′) = q .marked k x in omega arith)))) (r .stack k e)) (λ e. let z = e .0 in inr (omega arith, e .1, both-false (hasMark k a) (hasMark k c) (is-false (hasMark k a) (λ x. let (g, g′) = r .marked k x in omega arith)) (q .noMark refl k h z))) (q .stack k h)
 
 -- a block: its labels are no longer open behind it
 lab-scope : {l l₁ : Labels Spot} {a : Sk} {b : Bool} → Below l → Labelled l l₁ a b → Labelled l (popScope l l₁) (scoped a) true

@@ -1,6 +1,6 @@
 -- Demand 3 and the agreement with the premise read on the tree as it came in: what meets it then meets it after the first pass too, so both hold of every kept function that met it.
 use Prim.Native.Nat.{ℕ, zero, suc}
-use mathlib.Core.Bool.{Bool, true, false, _&&_}
+use mathlib.Core.Bool.{true, false, _&&_}
 use mathlib.Core.Path.{_≡_, refl, sym, _∙_, ap}
 use mathlib.Core.List.{List, [], _∷_, _++_, flatMap}
 use mathlib.Core.Option.{Option, none, some}
@@ -11,7 +11,7 @@ use Rattle.penne.specs.Pruning.{offsets}
 use Rattle.penne.specs.Tree.{Spot, Ident, Maybe, ok, Ty, StmSort, Stm, nil′, cons′, declaration, assignment, methodCall, loop, goto, label, ifElse, block, badStmt, noElse, orElse, Param, Body, Decl, constant, function, functionHead, structure, import, badDecl}
 use Rattle.penne.specs.Walks.{notBare, premise, bodyActs, namesAt, functionNames, partsOf, NamesSkipped}
 use Rattle.penne.specs.Standing.{Agreement}
-use Rattle.penne.proofs.Booleans.{true-false, none-some, and-left, and-right}
+use Rattle.penne.proofs.Booleans.{true-false, none-some, and-left, and-right, both-true}
 use Rattle.penne.proofs.Demand3.{demand3}
 use Rattle.penne.proofs.Agreement.{agreement}
 
@@ -49,10 +49,6 @@ bare-labels (block p ts) l h = h
 bare-labels (badStmt z) l h = h
 bare-labels noElse l h = h
 bare-labels (orElse p t) l h = bare-labels t l h
-
--- both together
-both-true : (a b : Bool) → a ≡ true → b ≡ true → (a && b) ≡ true
-both-true a b e f = rw (e, f)
 
 -- THE FIRST PASS LEAVES THE PREMISE
 premise-labels : {s : StmSort} (t : Stm Spot s) (l : Labels Spot) → premise t ≡ true → premise (labels t l .0) ≡ true

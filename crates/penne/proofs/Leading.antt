@@ -19,6 +19,13 @@ pub never : {A X : Type 0} {x : A} {c : Cur} {n p : ℕ} → _≡_ {A = Got A} (
 unfolding number-of
 never e = absurd (let z : 1 ≡ 0 = ap number-of e in omega arith)
 
+-- what was got is one value up to one cursor
+pub same-value : {A : Type 0} {x y : A} {c d : Cur} → got x c ≡ got y d → x ≡ y
+same-value e = cc
+
+pub same-cur : {A : Type 0} {x y : A} {c d : Cur} → got x c ≡ got y d → c ≡ d
+same-cur e = cc
+
 pub leads-got : {A : Type 0} {X : A → Cur → Type 0} (x : A) (d : Cur) → X x d → Leads (got x d) X
 leads-got {A} {X} x d h = record { to = λ {x = y} {d = e} q. let u : x ≡ y = cc in let v : d ≡ e = cc in subst (λ (z : A). X z e) u (subst (λ (z : Cur). X x z) v h) }
 

@@ -6,6 +6,7 @@ pub mod Limits
 pub mod Vectors
 pub mod Rooms
 pub mod Booleans
+pub mod Searching
 pub mod Skeleton
 pub mod SkeletonLabels
 pub mod FlowIsWalked

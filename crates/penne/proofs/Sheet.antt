@@ -6,7 +6,7 @@ use Rattle.penne.specs.Scoper.{scoped, outcome, answer}
 use Rattle.penne.proofs.Run.{run}
 
 -- a tree, the answered tree, the list's records
-table : List (List ℕ × List ℕ × List (ℕ × ℕ))
+pub table : List (List ℕ × List ℕ × List (ℕ × ℕ))
 table =
     -- P1: bytes 00 00 answer 00 00
     (
@@ -59,6 +59,6 @@ table =
     []
 
 -- each tree, with the room that the listing program lends, is answered so, and all that was lent besides is zero
-p1-to-p8 : map (λ r. scoped (r .0) 65535 16384 16384) table ≡ map (λ r. outcome 65535 16384 16384 (answer (r .1) (r .2))) table
+pub p1-to-p8 : map (λ r. scoped (r .0) 65535 16384 16384) table ≡ map (λ r. outcome 65535 16384 16384 (answer (r .1) (r .2))) table
 unfolding run table
 p1-to-p8 = refl

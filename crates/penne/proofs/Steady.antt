@@ -9,7 +9,7 @@ use lib.Dec.{eqb}
 use lib.ListN.{length}
 use borrow.Author.Tests.{eqb-true, eqb-false, ne-eqb}
 use Rattle.penne.specs.Tree.{Kind, Ident, Maybe, ok, err, Ty, plain, array, arrayWithNamedLength, arraylike, struct, word, unresolved, nameless, pointer, view, Sort, Node, nil, cons, binary, unary, boolean, signed, bits, string, arrayLiteral, structural, parenthesized, deref, bitCast, typeCast, lengthOfArray, sizeOf, functionCall, badExpr, reference, element, member, memberExpression}
-use Rattle.penne.specs.Find.{first, keep, isIn, firstNamed}
+use Rattle.penne.specs.Find.{first, keep, firstNamed}
 use Rattle.penne.specs.Pruning.{Fate, pruned, poisoned, standing, fate, fateBy, Pruning, Prunings, poisonVariable, listSkip}
 use Rattle.penne.specs.Containers.{Container, Containment, identifierOf, structures, joined, joinWhere, addedIds, addIds, foundContainer1}
 use Rattle.penne.specs.Scopes.{Analyzer}
@@ -17,6 +17,7 @@ use Rattle.penne.specs.State as S
 use Rattle.penne.specs.Scopes as Q
 use Rattle.penne.specs.Variables as V′
 use Rattle.penne.proofs.Booleans.{true-false, or-right}
+use Rattle.penne.proofs.Searching.{is-in-here, is-in-past}
 
 -- it does not stand
 unfoldable pub isGone : {P : Type 0} → Fate P → Bool
@@ -56,21 +57,12 @@ has-keep x y (c ∷ cs) e = (elim (eqb (c .variable) y) as (λ b. eqb (c .variab
   ]) refl
 ]) refl
 
--- membership, by the first
-isIn-here : (x y : ℕ) (ys : List ℕ) → eqb x y ≡ true → isIn x (y ∷ ys) ≡ true
-unfolding isIn
-isIn-here x y ys e = rw (e, isIn)
-
-isIn-past : (x y : ℕ) (ys : List ℕ) → eqb x y ≡ false → isIn x (y ∷ ys) ≡ isIn x ys
-unfolding isIn
-isIn-past x y ys e = rw (e, isIn)
-
 -- what is pruned and then poisoned does not stand before or after; of all others nothing changes
 gone-poison : {P : Type 0} (x y : ℕ) (s : Prunings P) → goneId y s ≡ true → goneId x (poisonVariable y s) ≡ goneId x s
 unfolding goneId fate poisonVariable has
 gone-poison x y s h = (elim (eqb x y) as (λ b. eqb x y ≡ b → goneId x (poisonVariable y s) ≡ goneId x s) [
-  | true ↦ λ e. gone-by _ _ ∙ or-right (has x (keep (λ c. not (eqb (c .variable) y)) (s .prunedVariables))) _ (isIn-here x y (s .poisonedVariables) e) ∙ sym (ap (λ (z : ℕ). goneId z s) (eqb-true x y e) ∙ h)
-  | false ↦ λ e. gone-by _ _ ∙ (let p = has-keep x y (s .prunedVariables) e in let q = isIn-past x y (s .poisonedVariables) e in λ t. p t || q t) ∙ sym (gone-by _ _)
+  | true ↦ λ e. gone-by _ _ ∙ or-right (has x (keep (λ c. not (eqb (c .variable) y)) (s .prunedVariables))) _ (is-in-here x y (s .poisonedVariables) e) ∙ sym (ap (λ (z : ℕ). goneId z s) (eqb-true x y e) ∙ h)
+  | false ↦ λ e. gone-by _ _ ∙ (let p = has-keep x y (s .prunedVariables) e in let q = is-in-past x y (s .poisonedVariables) e in λ t. p t || q t) ∙ sym (gone-by _ _)
 ]) refl
 
 -- THE STRUCTURES: to join ids to containers leaves their identifiers as they are

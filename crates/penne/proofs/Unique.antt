@@ -1,16 +1,10 @@
 -- Two lists that name what walks skip are one.
 use Prim.Native.Nat.{ℕ, _+_}
-use mathlib.Core.Bool.{Bool, true, false}
+use mathlib.Core.Bool.{Bool}
 use mathlib.Core.Path.{_≡_, refl, sym, _∙_}
 use mathlib.Core.List.{List, [], _∷_}
 use Rattle.penne.specs.Walks.{Act, picked, NamesSkipped}
-
--- two tests that say the same
-same-bool : (a b : Bool) → (a ≡ true → b ≡ true) → (b ≡ true → a ≡ true) → a ≡ b
-same-bool true true f g = refl
-same-bool true false f g = sym (f refl)
-same-bool false true f g = g refl
-same-bool false false f g = refl
+use Rattle.penne.proofs.Booleans.{same-bool}
 
 same-picked : (f g : ℕ → Bool) → ((n : ℕ) → f n ≡ g n) → (at : ℕ) (text : List Act) → picked f at text ≡ picked g at text
 unfolding picked

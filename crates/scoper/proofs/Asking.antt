@@ -13,6 +13,7 @@ use Rattle.penne.specs.Reader.{Counts, Cur, Got, got, refused, Reader, _>>=_, r
 use Rattle.penne.specs.Tree.{Spot, Decl, Tree, constant, function, functionHead, structure, import, badDecl}
 use Rattle.penne.specs.Read.{answered, decode}
 use Rattle.penne.specs.Scoper.{Asked, told, untold, askDecl, askTree, ask, depthOr, getContainerDepth, isContainer}
+use Rattle.penne.proofs.Leading.{never, same-value, same-cur}
 use Rattle.tree.specs.declared.number.Read.{Read}
 use Rattle.tree.specs.declared.number.Read.the-variants.{Number, Refused}
 use Rattle.tree.specs.declared.script.Layout.{Layout}
@@ -20,7 +21,7 @@ use Rattle.tree.specs.declared.script.Laid.{Laid}
 use Rattle.tree.specs.declared.script.Laid.the-variants as L
 use Rattle.tree.specs.Answers.{cursor, numberOf, Gives}
 use Rattle.tree.specs.Script.{refusalOf, refusal, Decoded, AnsweredLayout}
-use Rattle.tree.proofs.Scripts.{got-never, got-value, got-cursor, bind-case, many-length}
+use Rattle.tree.proofs.Scripts.{bind-case, many-length}
 use Rattle.scoper.specs.declared.Depth.{Depth}
 use Rattle.scoper.specs.declared.Depth.the-variants as D
 use Rattle.scoper.specs.declared.Container.{Container}
@@ -32,9 +33,9 @@ use Rattle.scoper.specs.Asking.{depthAsked, containerAsked, unaskedBy, N
 pub such-go : {A : Type 0} (test : A → Cur → Bool) (k at : ℕ) (q : Got A) {a : A} {c : Cur} → elim q as (λ _. Got A) [ got x next ↦ elim (test x next) [ true ↦ got x next | false ↦ refused k at ] | refused i p ↦ refused i p ] ≡ got a c → q ≡ got a c
 such-go test k at (got x next) {a} {c} e = (elim (test x next) as (λ t. elim t as (λ _. Got _) [ true ↦ got x next | false ↦ refused k at ] ≡ got a c → got x next ≡ got a c) [
   | true ↦ λ h. h
-  | false ↦ λ h. got-never h
+  | false ↦ λ h. never h
 ]) e
-such-go test k at (refused i p) e = got-never e
+such-go test k at (refused i p) e = never e
 
 below-num : (k : ℕ) (s : List ℕ) (c : Cur) {a : ℕ} {d : Cur} → below k s c ≡ got a d → num s c ≡ got a d
 unfolding below such
@@ -53,7 +54,7 @@ answered-num (badDecl z) s c h = below-num 1 s c h
 each-case : {X : Type 0} (d : Decl Spot) (ds : List (Decl Spot)) (s : List ℕ) (c : Cur) {hs : List ℕ} {e : Cur} → each answered (d ∷ ds) s c ≡ got hs e →
     ((h : ℕ) (c₁ : Cur) (tail : List ℕ) → num s c ≡ got h c₁ → each answered ds s c₁ ≡ got tail e → hs ≡ h ∷ tail → X) → X
 unfolding each ret
-each-case d ds s c e next = bind-case (answered d) _ s c e λ h c₁ e₁ e₂. bind-case (each answered ds) _ s c₁ e₂ λ tail c₂ e₃ e₄. next h c₁ tail (answered-num d s c e₁) (e₃ ∙ ap (got tail) (got-cursor e₄)) (sym (got-value e₄))
+each-case d ds s c e next = bind-case (answered d) _ s c e λ h c₁ e₁ e₂. bind-case (each answered ds) _ s c₁ e₂ λ tail c₂ e₃ e₄. next h c₁ tail (answered-num d s c e₁) (e₃ ∙ ap (got tail) (same-cur e₄)) (sym (same-value e₄))
 
 pub record Skipping (s : List ℕ) (at n rest cur : ℕ) : Type 0 where
   pub on : (r : ℕ) → NthDepth s cur rest r → NthDepth s at n r
@@ -73,14 +74,14 @@ module _ {s : List ℕ} {cur : ℕ} {m : Read} (g : Gives num s cur m) where
   -- a refused number: there are no such depths
   unread-go : {n r i p : ℕ} → m ≡ Refused i p → (names : ℕ) (k : Counts) (ds : List (Decl Spot)) (hs : List ℕ) (c : Cur) → each answered ds s (cursor cur names k) ≡ got hs c → n < length ds → r ≡ getD hs n 0
   unread-go e names k [] hs c h i = absurd (not-suc-le-zero i)
-  unread-go e names k (d ∷ ds) hs c h i = each-case d ds s _ h λ a c₁ tail e₁ e₂ z. got-never (sym (number-no names k e) ∙ e₁)
+  unread-go e names k (d ∷ ds) hs c h i = each-case d ds s _ h λ a c₁ tail e₁ e₂ z. never (sym (number-no names k e) ∙ e₁)
 
   pub unread : {n r i p : ℕ} → m ≡ Refused i p → NthDepth s cur n r
   unread e = record { is = unread-go e }
 
   last-go : {v b : ℕ} → m ≡ Number v b → (names : ℕ) (k : Counts) (ds : List (Decl Spot)) (hs : List ℕ) (c : Cur) → each answered ds s (cursor cur names k) ≡ got hs c → 0 < length ds → v ≡ getD hs 0 0
   last-go e names k [] hs c h i = absurd (not-suc-le-zero i)
-  last-go e names k (d ∷ ds) hs c h i = each-case d ds s _ h λ a c₁ tail e₁ e₂ z. got-value (sym (number-at names k e) ∙ e₁) ∙ ap (λ (l : List ℕ). getD l 0 0) (sym z)
+  last-go e names k (d ∷ ds) hs c h i = each-case d ds s _ h λ a c₁ tail e₁ e₂ z. same-value (sym (number-at names k e) ∙ e₁) ∙ ap (λ (l : List ℕ). getD l 0 0) (sym z)
 
   pub nth-last : {n v b : ℕ} → n ≡ 0 → m ≡ Number v b → NthDepth s cur n v
   nth-last {v = v} z e = subst (λ (j : ℕ). NthDepth s cur j v) (sym z) (record { is = last-go e })
@@ -88,7 +89,7 @@ module _ {s : List ℕ} {cur : ℕ} {m : Read} (g : Gives num s cur m) where
   more-go : {rest r v b : ℕ} → m ≡ Number v b → NthDepth s b rest r → (names : ℕ) (k : Counts) (ds : List (Decl Spot)) (hs : List ℕ) (c : Cur) → each answered ds s (cursor cur names k) ≡ got hs c → suc rest < length ds → r ≡ getD hs (suc rest) 0
   more-go e o names k [] hs c h i = absurd (not-suc-le-zero i)
   more-go {rest} {r} e o names k (d ∷ ds) hs c h i = each-case d ds s _ h λ a c₁ tail e₁ e₂ z.
-      o .is names k ds tail c (subst (λ (x : Cur). each answered ds s x ≡ got tail c) (sym (got-cursor (sym (number-at names k e) ∙ e₁))) e₂) (le-of-suc-le-suc i) ∙ ap (λ (l : List ℕ). getD l (suc rest) 0) (sym z)
+      o .is names k ds tail c (subst (λ (x : Cur). each answered ds s x ≡ got tail c) (sym (same-cur (sym (number-at names k e) ∙ e₁))) e₂) (le-of-suc-le-suc i) ∙ ap (λ (l : List ℕ). getD l (suc rest) 0) (sym z)
 
   one-more : {r v b : ℕ} (rest : ℕ) → (rest ≡ 0 → ⊥) → m ≡ Number v b → NthDepth s b (rest - 1) r → NthDepth s cur rest r
   one-more zero z e o = absurd (z refl)

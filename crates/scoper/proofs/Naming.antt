@@ -1,8 +1,8 @@
 -- get_structure_name: a law for each way out.
 use mathlib.Core.Path.{_≡_, refl, sym, ap, subst, _∙_}
 use mathlib.Core.Bool.{Bool, true, false, _&&_, not}
-use mathlib.Core.List.{List, [], _∷_, _++_}
-use mathlib.Core.Option.{Option, none, some}
+use mathlib.Core.List.{List, [], _∷_, _++_, append-assoc, append-nil}
+use mathlib.Core.Option.{some}
 use Prim.Native.Nat.{ℕ, zero, suc, _+_, _-_, _≤_, _<_}
 use native.Mathlib.Omega.{arith}
 use native.Mathlib.Nat.{not-suc-le-zero, le-of-suc-le-suc}
@@ -15,6 +15,8 @@ use Rattle.penne.specs.Tree.{Spot, Ident, Decl, Tree, Param, Maybe, Ty, structu
 use Rattle.penne.specs.Read.{place, name, ident, maybe, readTy, readParam, readStructure, DeclKind, declKinds, kConstant, kFunction, kFunctionHead, kStructure, kImport, kBadDecl, readConstant, readFunction, readFunctionHead, readImport, declOf, declHead, declCounts, readDecl, readNames, amongNames}
 use Rattle.penne.specs.Write.{numB, bytesB, eachB}
 use Rattle.penne.specs.Scoper.{Asked, told, untold, askDecl, ask, nameFrom, structureName, getStructureName}
+use Rattle.penne.proofs.Leading.{never, same-value, same-cur}
+use Rattle.penne.proofs.Booleans.{and-right, some-same, none-some}
 use Rattle.tree.specs.declared.number.Read.{Read}
 use Rattle.tree.specs.declared.number.Read.the-variants.{Number, Refused}
 use Rattle.tree.specs.declared.counts.Counts as C
@@ -31,7 +33,7 @@ use Rattle.tree.proofs.Chain.{after, here, never′, reads}
 use Rattle.tree.proofs.Counting.{counting-no, counting-fits, counting-full}
 use Rattle.tree.proofs.Fields.{stops}
 use Rattle.tree.proofs.Statements.{kind-value}
-use Rattle.tree.proofs.Scripts.{got-never, got-value, got-cursor, bind-case, many-case, Yields, yields-bind, yields-ret}
+use Rattle.tree.proofs.Scripts.{bind-case, many-case, Yields, yields-bind, yields-ret}
 use Rattle.answer.proofs.Groups.{number-small}
 use Rattle.answer.proofs.Spelling.{num-reading}
 use Rattle.scoper.specs.declared.Named.{Named}
@@ -60,22 +62,16 @@ pub passing-start : {s : List ℕ} {names at n : ℕ} → Passing s names at n n
 unfolding nothing
 passing-start = record { on = λ r h. h }
 
-none-some : {X A : Type 0} {a : A} → _≡_ {A = Option A} none (some a) → X
-none-some e = let z : _≡_ {A = ℕ} 0 1 = cc in absurd (omega arith)
-
-some-is : {A : Type 0} {a b : A} → some a ≡ some b → a ≡ b
-some-is e = cc
-
 -- what is first of the declarations, and what is left
 decls-case : {X : Type 0} (count : ℕ) (s : List ℕ) (c : Cur) (n : ℕ) {ds : List (Decl Spot)} {e : Cur} {d : Decl Spot} → many readDecl count s c ≡ got ds e → getElem? ds n ≡ some d →
     ((rest : ℕ) (a : Decl Spot) (c₁ : Cur) (tail : List (Decl Spot)) → readDecl s c ≡ got a c₁ → many readDecl rest s c₁ ≡ got tail e → getElem? (a ∷ tail) n ≡ some d → X) → X
 unfolding many ret
-decls-case zero s c n {ds} {e} {d} h w next = none-some (sym (ap (λ (l : List (Decl Spot)). getElem? l n) (sym (got-value h))) ∙ w)
+decls-case zero s c n {ds} {e} {d} h w next = none-some _ (sym (ap (λ (l : List (Decl Spot)). getElem? l n) (sym (same-value h))) ∙ w)
 decls-case (suc count) s c n h w next = many-case readDecl count s c h λ a c₁ tail h₁ h₂ z. next count a c₁ tail h₁ h₂ (ap (λ (l : List (Decl Spot)). getElem? l n) (sym z) ∙ w)
 
 module _ {s : List ℕ} {names : ℕ} {k : C.Counts} {cur : ℕ} where
   here-go : (n : ℕ) → n ≡ 0 → NthDeclaration s names (countsOf k) cur n cur
-  here-go zero z = record { is = λ count ds c d h w. decls-case count s _ 0 h w λ rest a c₁ tail h₁ h₂ y. record { counts = countsOf k; next = c₁; read = h₁ ∙ ap (λ (x : Decl Spot). got x c₁) (some-is y) } }
+  here-go zero z = record { is = λ count ds c d h w. decls-case count s _ 0 h w λ rest a c₁ tail h₁ h₂ y. record { counts = countsOf k; next = c₁; read = h₁ ∙ ap (λ (x : Decl Spot). got x c₁) (some-same y) } }
   here-go (suc n) z = absurd (omega arith)
 
   pub passing-done : {at n rest : ℕ} → Passing s names at n rest k cur → rest ≡ 0 → NthDeclaration s names nothing at n cur
@@ -109,26 +105,26 @@ module _ {s : List ℕ} {names : ℕ} {k : C.Counts} {cur : ℕ} where
 
 such-true : {A : Type 0} (test : A → Cur → Bool) (k at : ℕ) (q : Got A) {a : A} {c : Cur} → elim q as (λ _. Got A) [ got x next ↦ elim (test x next) [ true ↦ got x next | false ↦ refused k at ] | refused i p ↦ refused i p ] ≡ got a c → test a c ≡ true
 such-true {A} test k at (got x next) {a} {c} e = (elim (test x next) as (λ t. test x next ≡ t → elim t as (λ _. Got A) [ true ↦ got x next | false ↦ refused k at ] ≡ got a c → test a c ≡ true) [
-  | true ↦ λ z h. sym (λ j. test (got-value h j) (got-cursor h j)) ∙ z
-  | false ↦ λ z h. got-never h
+  | true ↦ λ z h. sym (λ j. test (same-value h j) (same-cur h j)) ∙ z
+  | false ↦ λ z h. never h
 ]) refl e
-such-true test k at (refused i p) e = got-never e
+such-true test k at (refused i p) e = never e
 
 -- counting hands on what was read
 counting-is : {A : Type 0} (f : A → Counts) (m : Reader A) (s : List ℕ) (c : Cur) {a b : A} {next d : Cur} → m s c ≡ got a next → counting f m s c ≡ got b d → (a ≡ b) × (counted next (f a) ≡ d)
 counting-is f m s c {a} {b} {next} {d} e h = (elim (fits (plus (next .counts) (f a))) as (λ t. fits (plus (next .counts) (f a)) ≡ t → (a ≡ b) × (counted next (f a) ≡ d)) [
-  | true ↦ λ z. let q = sym (counting-fits f m s c e z) ∙ h in (got-value q, got-cursor q)
-  | false ↦ λ z. got-never (sym (counting-full f m s c e z) ∙ h)
+  | true ↦ λ z. let q = sym (counting-fits f m s c e z) ∙ h in (same-value q, same-cur q)
+  | false ↦ λ z. never (sym (counting-full f m s c e z) ∙ h)
 ]) refl
 
 place-num : {X : Type 0} (s : List ℕ) (c : Cur) {p : Spot} {d : Cur} → place s c ≡ got p d → ((v : ℕ) → num s c ≡ got v d → X) → X
 unfolding place ret
-place-num s c e next = bind-case num _ s c e λ v c₁ h₁ h₂. next v (h₁ ∙ ap (got v) (got-cursor h₂))
+place-num s c e next = bind-case num _ s c e λ v c₁ h₁ h₂. next v (h₁ ∙ ap (got v) (same-cur h₂))
 
 ident-name : {X : Type 0} (s : List ℕ) (c : Cur) {i : Ident Spot} {d : Cur} → ident s c ≡ got i d → ((c₁ : Cur) → name s c ≡ got (i .name) c₁ → X) → X
 unfolding ident ret
 ident-name s c e next = bind-case name _ s c e λ n c₁ h₁ e₁. bind-case num _ s c₁ e₁ λ p c₂ h₂ e₂. bind-case num _ s c₂ e₂ λ v c₃ h₃ e₃. bind-case (below 2) _ s c₃ e₃ λ a c₄ h₄ e₄.
-    next c₁ (h₁ ∙ ap (λ (x : ℕ). got x c₁) (ap (λ (x : Ident Spot). x .name) (got-value e₄)))
+    next c₁ (h₁ ∙ ap (λ (x : ℕ). got x c₁) (ap (λ (x : Ident Spot). x .name) (same-value e₄)))
 
 name-known : (s : List ℕ) (c : Cur) {n : ℕ} {d : Cur} → name s c ≡ got n d → n < d .names
 unfolding name such
@@ -160,7 +156,7 @@ by-is e = cc
 module _ {s : List ℕ} {names at : ℕ} {m₁ : Read} (g₁ : Gives (below 6) s at m₁) where
   pub title-unread : {r : Titled} {i p : ℕ} → m₁ ≡ Refused i p → Titles s names at r
   unfolding readDecl declHead
-  title-unread e = title-never λ d g. bind-case (counting declCounts declHead) (declOf 63) s _ (g .read) λ kd c₁ h₁ h₂. got-never (sym (counting-no declCounts declHead s _ (stops _ (reads g₁) (g .counts) e)) ∙ h₁)
+  title-unread e = title-never λ d g. bind-case (counting declCounts declHead) (declOf 63) s _ (g .read) λ kd c₁ h₁ h₂. never (sym (counting-no declCounts declHead s _ (stops _ (reads g₁) (g .counts) e)) ∙ h₁)
 
   module _ {v a : ℕ} (e₁ : m₁ ≡ Number v a) where
     kind-case : {X : Type 0} {d : Decl Spot} → Stands s names at d → ((k : Counts) (c : Cur) → declOf 63 (getD declKinds v kBadDecl) s (cursor a names k) ≡ got d c → X) → X
@@ -180,33 +176,33 @@ module _ {s : List ℕ} {names at : ℕ} {m₁ : Read} (g₁ : Gives (below 6) s
       unfolding declOf declKinds readStructure ret
       structure-case g next = kind-case g λ k c h.
           bind-case (below 32) _ s _ (ap (λ (j : ℕ). declOf 63 (getD declKinds j kBadDecl) s (cursor a names k)) (sym z) ∙ h) λ f c₁ e₁ h₁. bind-case place _ s c₁ h₁ λ p c₂ e₂ h₂. bind-case ident _ s c₂ h₂ λ i c₃ e₃ h₃.
-          bind-case (listed (readParam 63 true)) _ s c₃ h₃ λ ms c₄ e₄ h₄. bind-case (maybe (readTy 63 false)) _ s c₄ h₄ λ t c₅ e₅ h₅. next k f p i ms t c₁ c₂ c₃ e₁ e₂ e₃ (got-value h₅)
+          bind-case (listed (readParam 63 true)) _ s c₃ h₃ λ ms c₄ e₄ h₄. bind-case (maybe (readTy 63 false)) _ s c₄ h₄ λ t c₅ e₅ h₅. next k f p i ms t c₁ c₂ c₃ e₁ e₂ e₃ (same-value h₅)
 
       pub title-flags : {r : Titled} {i p : ℕ} → m₂ ≡ Refused i p → Titles s names at r
-      title-flags e = title-never λ d g. structure-case g λ k f p i ms t c₁ c₂ c₃ h₁ h₂ h₃ w. got-never (sym (read-not (reads g₂) k e) ∙ h₁)
+      title-flags e = title-never λ d g. structure-case g λ k f p i ms t c₁ c₂ c₃ h₁ h₂ h₃ w. never (sym (read-not (reads g₂) k e) ∙ h₁)
 
       module _ {v₂ b : ℕ} (e₂ : m₂ ≡ Number v₂ b) {m₃ : Read} (g₃ : Gives num s b m₃) where
         flags-case : {X : Type 0} {d : Decl Spot} → Stands s names at d → ((k : Counts) (f : ℕ) (p : Spot) (i : Ident Spot) (ms : List (Param Spot)) (t : Maybe Spot (Ty Spot)) (c₂ c₃ : Cur) (v : ℕ) →
             num s (cursor b names k) ≡ got v c₂ → ident s c₂ ≡ got i c₃ → structure f p i ms t ≡ d → X) → X
         flags-case g next = structure-case g λ k f p i ms t c₁ c₂ c₃ h₁ h₂ h₃ w.
-            place-num s _ (ap (place s) (got-cursor (sym (read-is (reads g₂) k e₂) ∙ h₁)) ∙ h₂) λ v h. next k f p i ms t c₂ c₃ v h h₃ w
+            place-num s _ (ap (place s) (same-cur (sym (read-is (reads g₂) k e₂) ∙ h₁)) ∙ h₂) λ v h. next k f p i ms t c₂ c₃ v h h₃ w
 
         pub title-place : {r : Titled} {i p : ℕ} → m₃ ≡ Refused i p → Titles s names at r
-        title-place e = title-never λ d g. flags-case g λ k f p i ms t c₂ c₃ v h₂ h₃ w. got-never (sym (read-not (reads g₃) k e) ∙ h₂)
+        title-place e = title-never λ d g. flags-case g λ k f p i ms t c₂ c₃ v h₂ h₃ w. never (sym (read-not (reads g₃) k e) ∙ h₂)
 
         module _ {v₃ c : ℕ} (e₃ : m₃ ≡ Number v₃ c) {m₄ : Read} (g₄ : Reads name s names c m₄) where
           place-case : {X : Type 0} {d : Decl Spot} → Stands s names at d → ((k : Counts) (f : ℕ) (p : Spot) (i : Ident Spot) (ms : List (Param Spot)) (t : Maybe Spot (Ty Spot)) (c₃ : Cur) →
               name s (cursor c names k) ≡ got (i .name) c₃ → structure f p i ms t ≡ d → X) → X
           place-case g next = flags-case g λ k f p i ms t c₂ c₃ v h₂ h₃ w.
-              ident-name s _ (ap (ident s) (got-cursor (sym (read-is (reads g₃) k e₃) ∙ h₂)) ∙ h₃) λ c₄ h. next k f p i ms t c₄ h w
+              ident-name s _ (ap (ident s) (same-cur (sym (read-is (reads g₃) k e₃) ∙ h₂)) ∙ h₃) λ c₄ h. next k f p i ms t c₄ h w
 
           pub title-name : {r : Titled} {i p : ℕ} → m₄ ≡ Refused i p → Titles s names at r
-          title-name e = title-never λ d g. place-case g λ k f p i ms t c₃ h w. got-never (sym (read-not g₄ k e) ∙ h)
+          title-name e = title-never λ d g. place-case g λ k f p i ms t c₃ h w. never (sym (read-not g₄ k e) ∙ h)
 
           pub title-is : {n e : ℕ} → m₄ ≡ Number n e → Titles s names at (T.By n)
           unfolding structureName titledBy
           title-is {n} {e} w = record {
-            is = λ d g t. place-case g λ k f p i ms y c₃ h q. ap (structureName t) (sym q) ∙ ap (λ (j : ℕ). (nameFrom (t .names) j, length (getD (t .names) j []))) (sym (got-value (sym (read-is g₄ k w) ∙ h)));
+            is = λ d g t. place-case g λ k f p i ms y c₃ h q. ap (structureName t) (sym q) ∙ ap (λ (j : ℕ). (nameFrom (t .names) j, length (getD (t .names) j []))) (sym (same-value (sym (read-is g₄ k w) ∙ h)));
             known = λ d g j q. place-case g λ k f p i ms y c₃ h _. subst (λ (x : ℕ). x < names) (by-is q) (name-known s (cursor c names k) (read-is g₄ k w));
           }
 
@@ -220,25 +216,13 @@ pub data Table (s : List ℕ) : Cur → List (List ℕ) → Type 0 where
 raw-is : (n : ℕ) (s : List ℕ) (c : Cur) {b : List ℕ} {d : Cur} → raw n s c ≡ got b d → (length b ≡ n) × (d .at ≡ c .at + n)
 unfolding raw moved
 raw-is n s c {b} {d} e = (elim (leb (c .at + n) (length s)) as (λ t. leb (c .at + n) (length s) ≡ t → elim t as (λ _. Got (List ℕ)) [ true ↦ got (take n (drop (c .at) s)) (moved c (c .at + n)) | false ↦ refused 3 (c .at) ] ≡ got b d → (length b ≡ n) × (d .at ≡ c .at + n)) [
-  | true ↦ λ z h. (ap length (sym (got-value h)) ∙ length-take-le n (drop (c .at) s) (omega (arith, length-drop (c .at) s, leb-true (c .at + n) (length s) z)), sym (ap (λ (x : Cur). x .at) (got-cursor h)))
-  | false ↦ λ z h. got-never h
+  | true ↦ λ z h. (ap length (sym (same-value h)) ∙ length-take-le n (drop (c .at) s) (omega (arith, length-drop (c .at) s, leb-true (c .at + n) (length s) z)), sym (ap (λ (x : Cur). x .at) (same-cur h)))
+  | false ↦ λ z h. never h
 ]) refl e
 
 bytes-is : (s : List ℕ) (c : Cur) {c₁ c₂ : Cur} {n : ℕ} {b : List ℕ} → num s c ≡ got n c₁ → raw n s c₁ ≡ got b c₂ → bytes s c ≡ got b c₂
 unfolding bytes _>>=_
 bytes-is s c e h = ap (after raw s) e ∙ h
-
-and-right : (a b : Bool) → (a && b) ≡ true → b ≡ true
-and-right true b e = e
-and-right false b e = let z : _≡_ {A = ℕ} 0 1 = cc in absurd (omega arith)
-
-append-one : {A : Type 0} (xs : List A) (y : A) (ys : List A) → (xs ++ (y ∷ [])) ++ ys ≡ xs ++ (y ∷ ys)
-append-one [] y ys = refl
-append-one (x ∷ xs) y ys = ap (λ (l : List _). x ∷ l) (append-one xs y ys)
-
-append-none : {A : Type 0} (xs : List A) → xs ≡ xs ++ []
-append-none [] = refl
-append-none (x ∷ xs) = ap (λ (l : List _). x ∷ l) (append-none xs)
 
 -- what was read behind `before` is a table
 pub record Rest (s : List ℕ) (count : ℕ) (before : List (List ℕ)) (c : Cur) (ns : List (List ℕ)) : Type 0 where
@@ -255,7 +239,7 @@ new before b _ = not (amongNames b before)
 
 read-table : (count : ℕ) (before : List (List ℕ)) (s : List ℕ) (c : Cur) {ns : List (List ℕ)} {d : Cur} → readNames count before s c ≡ got ns d → Rest s count before c ns
 unfolding readNames such ret
-read-table zero before s c e = record { names = []; is = sym (got-value e) ∙ append-none before; many = refl; table = none′ }
+read-table zero before s c e = record { names = []; is = sym (same-value e) ∙ sym (append-nil before); many = refl; table = none′ }
 read-table (suc count) before s c {ns} e =
     bind-case (such num width 6) _ s c e λ n c₁ e₁ h₁.
     bind-case (such (raw n) (new before) 6) (λ b. readNames count (before ++ (b ∷ []))) s c₁ h₁ λ b c₂ e₂ h₂.
@@ -267,7 +251,7 @@ read-table (suc count) before s c {ns} e =
     let rest = read-table count (before ++ (b ∷ [])) s c₂ h₂ in
     record {
       names = b ∷ rest .names;
-      is = rest .is ∙ append-one before b (rest .names);
+      is = rest .is ∙ append-assoc before (b ∷ []) (rest .names);
       many = ap suc (rest .many);
       table = more′ c₁ c₂ (omega (arith, l .0)) (number ∙ ap (λ (j : ℕ). got j c₁) (sym (l .0))) one (bytes-is s c number text) (omega (arith, l .0, l .1)) (rest .table);
     }
@@ -330,7 +314,7 @@ module _ {s : List ℕ} {cur : ℕ} {m : Read} (g : Gives num s cur m) where
   lost-go : {n i p : ℕ} (r : Named) → m ≡ Refused i p → (c : Cur) (names : List (List ℕ)) → Table s c names → c .at ≡ cur → n < length names → nameAsked r ≡ place-of cur n names
   lost-go r e c [] none′ z h = absurd (not-suc-le-zero h)
   lost-go r e c (b ∷ bs) (more′ c₁ c₂ small number one text two t) z h =
-      got-never (sym (read-not (reads g) (c .counts) e) ∙ ap (λ (j : ℕ). num s (cursor j (c .names) (c .counts))) (sym z) ∙ number)
+      never (sym (read-not (reads g) (c .counts) e) ∙ ap (λ (j : ℕ). num s (cursor j (c .names) (c .counts))) (sym z) ∙ number)
 
   pub seeking-lost : {at n rest i p : ℕ} {r : Named} → Seeking s at n rest cur → m ≡ Refused i p → NameAt s at n r
   seeking-lost {r = r} k e = found-named (k .on r (record { is = lost-go r e }))
@@ -340,8 +324,8 @@ module _ {s : List ℕ} {cur : ℕ} {m : Read} (g : Gives num s cur m) where
   found-go e zero y c [] none′ z h = absurd (not-suc-le-zero h)
   found-go {v} {b} e zero y c (x ∷ xs) (more′ c₁ c₂ small number one text two t) z h =
       let q = sym (read-is (reads g) (c .counts) e) ∙ ap (λ (j : ℕ). num s (cursor j (c .names) (c .counts))) (sym z) ∙ number in
-      let start : b ≡ cur + 0 + 1 = ap (λ (d : Cur). d .at) (got-cursor q) ∙ omega (arith, one, z) in
-      let width : v ≡ length x = got-value q in
+      let start : b ≡ cur + 0 + 1 = ap (λ (d : Cur). d .at) (same-cur q) ∙ omega (arith, one, z) in
+      let width : v ≡ length x = same-value q in
       λ j. told (start j, width j)
   found-go e (suc n) y c names t z h = absurd (omega arith)
 
@@ -380,7 +364,7 @@ module _ {s : List ℕ} (k : ℕ) where
 
       module _ {m : Read} (g₂ : Gives num s 0 m) where
         pub name-unread : {i p : ℕ} → m ≡ Refused i p → nameAsked (N.At 0 0) ≡ getStructureName s k
-        name-unread q = got-never (sym (read-not (reads g₂) nothing q) ∙ d .laid .counted)
+        name-unread q = never (sym (read-not (reads g₂) nothing q) ∙ d .laid .counted)
 
         -- behind the count, the names before it and its own length
         from-is : {v b : ℕ} (n : ℕ) → m ≡ Number v b → place-of b n (d .laid .table) ≡ told (titledBy whole (T.By n))
@@ -388,13 +372,13 @@ module _ {s : List ℕ} (k : ℕ) where
         from-is {v} {b} n q =
             let t = read-table (l .names) [] s _ (d .laid .named) in
             let many : length (d .laid .table) ≡ l .names = ap length (t .is) ∙ t .many in
-            let begin : b ≡ d .laid .begin = ap (λ (c : Cur). c .at) (got-cursor (sym (read-is (reads g₂) nothing q) ∙ d .laid .counted)) in
+            let begin : b ≡ d .laid .begin = ap (λ (c : Cur). c .at) (same-cur (sym (read-is (reads g₂) nothing q) ∙ d .laid .counted)) in
             let spelt : b ≡ length (numB (length (d .laid .table))) = begin ∙ sym (num-reading s _ _ _ (d .laid .counted) .long) ∙ omega (arith, ap (λ (j : ℕ). length (numB j)) many) in
             ap (λ (j : ℕ). told (j + length (eachB bytesB (take n (d .laid .table))) + 1, length (getD (d .laid .table) n []))) spelt
 
         pub name-is : {v b n : ℕ} {z : Named} → r ≡ T.By n → m ≡ Number v b → NameAt s b n z → nameAsked z ≡ getStructureName s k
         name-is {v} {b} {n} q₁ q₂ f = told-is λ a stands w.
-            let begin : b ≡ d .laid .begin = ap (λ (c : Cur). c .at) (got-cursor (sym (read-is (reads g₂) nothing q₂) ∙ d .laid .counted)) in
+            let begin : b ≡ d .laid .begin = ap (λ (c : Cur). c .at) (same-cur (sym (read-is (reads g₂) nothing q₂) ∙ d .laid .counted)) in
             f .is (l .names) (d .laid .table) (d .laid .behind) (ap (λ (j : ℕ). readNames (l .names) [] s (cursor j 0 nothing)) begin ∙ d .laid .named) (y .known a stands n q₁) ∙ from-is n q₂ ∙ sym (w ∙ ap (λ (z : Titled). told (titledBy whole z)) q₁)
 
 -- THE PART OF THE TREE

@@ -16,6 +16,7 @@ use Rattle.penne.specs.Pruning as R
 use Rattle.penne.specs.Scopes.{Analyzer, withStack, withFunctions, withContainment, withPrunings, nextId, variables, lastLayer, authoritative, pushConstant, pushVariable, declareConstant, declareVariable, prepareToPruneAtGoto, pruneAtLabel, begin}
 use Rattle.penne.specs.Scopes as Defs
 use Rattle.penne.specs.Containers.{Containment}
+use Rattle.penne.proofs.Searching.{first-hit, first-miss, is-in-here, is-in-past}
 use Rattle.scopes.specs.declared.scope.Scope.{Scope}
 use Rattle.scopes.specs.declared.scope.Local.{Local}
 use Rattle.scopes.specs.declared.scope.Found.{Found}
@@ -26,9 +27,8 @@ use Rattle.scopes.specs.Table.{rows, words, heads, labelNote, Nth, here,
 use Rattle.scopes.specs.Calls.{Begins, Opens, Closes, Declares, Finds, nothing, found}
 use Rattle.scopes.specs.Jumps.{InScope, Prepares, Prunes, Poisons}
 use Rattle.scopes.specs.Mirror.{idsOf, Mirrors}
-use Rattle.scopes.proofs.Heading.{first-yes, first-no}
 use Rattle.scopes.proofs.Holding.{label-kept}
-use Rattle.scopes.proofs.Finding.{in-yes, in-no, never}
+use Rattle.scopes.proofs.Finding.{never}
 
 -- WHAT THE TABLE DOES NOT SEE
 
@@ -83,19 +83,19 @@ in-append x [] ls e d = e
 in-append x (c ∷ cs) ls e d = go (eqb x (c .id)) refl (in-append x cs ls)
   where
     go : (b : Bool) → eqb x (c .id) ≡ b → (isIn x (idsOf (cs ++ ls)) ≡ true → (isIn x (idsOf cs) ≡ true → ⊥) → isIn x (idsOf ls) ≡ true) → isIn x (idsOf ls) ≡ true
-    go true z f = absurd (d (in-yes x (c .id) (idsOf cs) z))
-    go false z f = f (sym (in-no x (c .id) (idsOf (cs ++ ls)) z) ∙ e) (λ q. d (in-no x (c .id) (idsOf cs) z ∙ q))
+    go true z f = absurd (d (is-in-here x (c .id) (idsOf cs) z))
+    go false z f = f (sym (is-in-past x (c .id) (idsOf (cs ++ ls)) z) ∙ e) (λ q. d (is-in-past x (c .id) (idsOf cs) z ∙ q))
 
 in-right : (x : ℕ) (cs ls : List (Ident Spot)) → isIn x (idsOf ls) ≡ true → isIn x (idsOf (cs ++ ls)) ≡ true
 in-right x [] ls e = e
 in-right x (c ∷ cs) ls e = go (eqb x (c .id)) refl (in-right x cs ls e)
   where
     go : (b : Bool) → eqb x (c .id) ≡ b → isIn x (idsOf (cs ++ ls)) ≡ true → isIn x (idsOf (c ∷ (cs ++ ls))) ≡ true
-    go true z f = in-yes x (c .id) (idsOf (cs ++ ls)) z
-    go false z f = in-no x (c .id) (idsOf (cs ++ ls)) z ∙ f
+    go true z f = is-in-here x (c .id) (idsOf (cs ++ ls)) z
+    go false z f = is-in-past x (c .id) (idsOf (cs ++ ls)) z ∙ f
 
 nth-in : {k : ℕ} {i : Ident Spot} {ls : List (Ident Spot)} → Nth k i ls → isIn (i .id) (idsOf ls) ≡ true
-nth-in {i = i} {ls = _ ∷ ls} here = in-yes (i .id) (i .id) (idsOf ls) (eq-eqb (i .id) (i .id) refl)
+nth-in {i = i} {ls = _ ∷ ls} here = is-in-here (i .id) (i .id) (idsOf ls) (eq-eqb (i .id) (i .id) refl)
 nth-in {i = i} {ls = j ∷ ls} (there n) = in-right (i .id) (j ∷ []) ls (nth-in n)
 
 in-lower : (ls : List (Ident Spot)) (next : ℕ) → ((k : ℕ) (i : Ident Spot) → Nth k i ls → i .id < next) → (x : ℕ) → isIn x (idsOf ls) ≡ true → x < next
@@ -105,7 +105,7 @@ in-lower (i ∷ ls) next f x e = go (eqb x (i .id)) refl (in-lower ls next (λ k
   where
     go : (b : Bool) → eqb x (i .id) ≡ b → (isIn x (idsOf ls) ≡ true → x < next) → x < next
     go true z g = omega (arith, eqb-true x (i .id) z, f 0 i here)
-    go false z g = g (sym (in-no x (i .id) (idsOf ls) z) ∙ e)
+    go false z g = g (sym (is-in-past x (i .id) (idsOf ls) z) ∙ e)
 
 bool-cases : (b : Bool) → Dec (b ≡ true)
 bool-cases true = yes refl
@@ -202,16 +202,16 @@ first-left f [] ys x e = absurd (let z : _≡_ {A = ℕ} 0 1 = cc in omega arith
 first-left f (y ∷ xs) ys x e = go (f y) refl (first-left f xs ys x)
   where
     go : (b : Bool) → f y ≡ b → (first f xs ≡ some x → first f (xs ++ ys) ≡ some x) → first f (y ∷ (xs ++ ys)) ≡ some x
-    go true z g = first-yes f y (xs ++ ys) z ∙ sym (first-yes f y xs z) ∙ e
-    go false z g = first-no f y (xs ++ ys) z ∙ g (sym (first-no f y xs z) ∙ e)
+    go true z g = first-hit f y (xs ++ ys) z ∙ sym (first-hit f y xs z) ∙ e
+    go false z g = first-miss f y (xs ++ ys) z ∙ g (sym (first-miss f y xs z) ∙ e)
 
 first-right : {A : Type 0} (f : A → Bool) (xs ys : List A) → first f xs ≡ none → first f (xs ++ ys) ≡ first f ys
 first-right f [] ys e = refl
 first-right f (y ∷ xs) ys e = go (f y) refl (first-right f xs ys)
   where
     go : (b : Bool) → f y ≡ b → (first f xs ≡ none → first f (xs ++ ys) ≡ first f ys) → first f (y ∷ (xs ++ ys)) ≡ first f ys
-    go true z g = absurd (let q = sym (first-yes f y xs z) ∙ e in let o : _≡_ {A = ℕ} 0 1 = cc in omega arith)
-    go false z g = first-no f y (xs ++ ys) z ∙ g (sym (first-no f y xs z) ∙ e)
+    go true z g = absurd (let q = sym (first-hit f y xs z) ∙ e in let o : _≡_ {A = ℕ} 0 1 = cc in omega arith)
+    go false z g = first-miss f y (xs ++ ys) z ∙ g (sym (first-miss f y xs z) ∙ e)
 
 module _ (a : Analyzer Spot) (n : ℕ) where
   pub named-constant : (j : Ident Spot) → firstNamed n (a .variableStack .constants) ≡ some j → firstNamed n (variables a) ≡ some j

@@ -10,11 +10,12 @@ use Rattle.penne.specs.Tree.{Spot}
 use Rattle.penne.specs.Find.{isIn}
 use Rattle.penne.specs.Pruning.{Pruning, Prunings, pruned, poisoned, fate, fateBy, prune, poisonVariable}
 use Rattle.penne.specs.Pruning as R
+use Rattle.penne.proofs.Searching.{is-in-here, is-in-past}
 use Rattle.scopes.specs.declared.pruning.Fate.{Fate}
 use Rattle.scopes.specs.Table.{Tells, stands, poisons, prunes}
 use Rattle.scopes.specs.Table as T
 use Rattle.scopes.specs.Jumps.{withPruned}
-use Rattle.scopes.proofs.Finding.{firstOf, first-without, first-with, in-yes, in-no, prune-first, prune-already, prune-other}
+use Rattle.scopes.proofs.Finding.{firstOf, first-without, first-with, prune-first, prune-already, prune-other}
 
 -- what pruned_variables has of a variable
 abbrev pub caught : {P : Type 0} → ℕ → Prunings P → Option (Pruning P)
@@ -43,11 +44,11 @@ is-uncaught x p f = by-uncaught (caught x p) (isIn x (p .poisonedVariables)) f
 
 pub poisoned-own : (x : ℕ) (p : Prunings Spot) → fate x (poisonVariable x p) ≡ poisoned
 unfolding fate poisonVariable fateBy
-poisoned-own x p = rw (first-without {A = Pruning Spot} (λ c. c .variable) x (p .prunedVariables), in-yes x x (p .poisonedVariables) (eq-eqb x x refl))
+poisoned-own x p = rw (first-without {A = Pruning Spot} (λ c. c .variable) x (p .prunedVariables), is-in-here x x (p .poisonedVariables) (eq-eqb x x refl))
 
 pub poisoned-other : (y x : ℕ) (p : Prunings Spot) → (x ≡ y → ⊥) → fate x (poisonVariable y p) ≡ fate x p
 unfolding fate poisonVariable
-poisoned-other y x p d = rw (first-with {A = Pruning Spot} (λ c. c .variable) y x d (p .prunedVariables), in-no x y (p .poisonedVariables) (ne-eqb x y d))
+poisoned-other y x p d = rw (first-with {A = Pruning Spot} (λ c. c .variable) y x d (p .prunedVariables), is-in-past x y (p .poisonedVariables) (ne-eqb x y d))
 
 -- PRUNED
 

@@ -11,18 +11,8 @@ use lib.ListN.{length}
 use borrow.Author.Tests.{eqb-true, eq-eqb, ne-eqb}
 use Rattle.penne.specs.Tree.{Ident}
 use Rattle.penne.specs.Find.{first, firstNamed}
+use Rattle.penne.proofs.Searching.{first-hit, first-miss}
 use Rattle.scopes.specs.Table.{Nth, here, there, further, headOf}
-
--- THE FIRST THAT PASSES, BY ITS CLAUSES
-
-module _ {A : Type 0} (f : A → Bool) (x : A) (xs : List A) where
-  pub first-yes : f x ≡ true → first f (x ∷ xs) ≡ some x
-  unfolding first
-  first-yes e = rw (e, first)
-
-  pub first-no : f x ≡ false → first f (x ∷ xs) ≡ first f xs
-  unfolding first
-  first-no e = rw (e, first)
 
 module _ {P : Type 0} (n : ℕ) (i : Ident P) (is : List (Ident P)) where
   head-yes : eqb (i .name) n ≡ true → headOf n (i ∷ is) ≡ 1
@@ -35,11 +25,11 @@ module _ {P : Type 0} (n : ℕ) (i : Ident P) (is : List (Ident P)) where
 
   named-yes : eqb (i .name) n ≡ true → firstNamed n (i ∷ is) ≡ some i
   unfolding firstNamed
-  named-yes e = first-yes (λ j. eqb (j .name) n) i is e
+  named-yes e = first-hit (λ j. eqb (j .name) n) i is e
 
   named-no : eqb (i .name) n ≡ false → firstNamed n (i ∷ is) ≡ firstNamed n is
   unfolding firstNamed
-  named-no e = first-no (λ j. eqb (j .name) n) i is e
+  named-no e = first-miss (λ j. eqb (j .name) n) i is e
 
 further-zero : (h : ℕ) → further h ≡ 0 → h ≡ 0
 unfolding further

@@ -2,16 +2,15 @@
 use mathlib.Core.Path.{_≡_, refl, sym, ap, subst, _∙_}
 use mathlib.Core.Bool.{true}
 use mathlib.Core.List.{List, _++_, append-assoc}
-use Prim.Native.Nat.{ℕ, zero, suc, _≤_}
-use native.Mathlib.Omega.{arith}
+use Prim.Native.Nat.{ℕ, _≤_}
 use lib.Dec.{lit≤}
 use lib.ListN.{getD}
-use Rattle.penne.specs.Reader.{Counts, Reader, _>>=_, ret, num, listed}
+use Rattle.penne.specs.Reader.{Reader, _>>=_, ret, num, listed}
 use Rattle.penne.specs.Tree.{Spot, Ident, Poison, Maybe, ok, err, expr, ref, one, listOf, Node, Expr, stmt, Stm, assignment, methodCall, loop, badStmt}
 use Rattle.penne.specs.Read.{place, readPoison, read, toNodes, readStmt, stmtOf, StmtKind, stmtKinds, kBadStmt, readAssignment, readMethodCall}
 use Rattle.penne.specs.Write.{numB, placeB, poisonB, nodeB, stmB}
 use Rattle.penne.specs.State as S
-use Rattle.penne.specs.Scopes.{Analyzer, useFunction}
+use Rattle.penne.specs.Scopes.{Analyzer}
 use Rattle.penne.specs.Variables.{analyzeNode, useCalled, methodTo, analyzeStm}
 use Rattle.penne.proofs.IdsPass.{still-node}
 use Rattle.tree.specs.declared.number.Read.{Read}
@@ -19,7 +18,7 @@ use Rattle.tree.specs.declared.number.Read.the-variants.{Number, Refused}
 use Rattle.tree.specs.declared.field.Identifier.{Identifier}
 use Rattle.tree.specs.declared.field.Identified.{Identified}
 use Rattle.tree.specs.declared.field.Identified.the-variants as I
-use Rattle.tree.specs.Answers.{cursor, numberOf, identOf, Gives, Identifies}
+use Rattle.tree.specs.Answers.{identOf, Gives, Identifies}
 use Rattle.tree.proofs.Chain.{reads}
 use Rattle.tree.proofs.Statements.{from-last}
 use Rattle.answer.specs.declared.wrote.Wrote.{Wrote}
@@ -31,26 +30,23 @@ use Rattle.walk.specs.declared.state.Walk.{Walk}
 use Rattle.walk.specs.declared.fault.Fault.{Fault}
 use Rattle.walk.specs.declared.names.Used.{Used}
 use Rattle.walk.specs.declared.names.Used.the-variants as U
-use Rattle.walk.specs.Walking.{Moves, Writes, withWrote, Ground, Good, Is, onward, say, sayPoison, Walks, faultB, madeB, Made, made-as, made-not, Uses}
+use Rattle.walk.specs.Walking.{Moves, Writes, withWrote, Ground, Good, Is, onward, say, sayPoison, Walks, faultB, madeB, Made, Uses}
 use Rattle.walk.proofs.Leading.{leads-read, leads-unread, leads-identified, leads-unidentified, leads-place, leads-unplace, leads-call, leads-end}
 use Rattle.walk.proofs.Writing.{moved, wrote, instead, here-wrote}
-use Rattle.walk.proofs.Copying.{Spells, spells-is, spells-num}
+use Rattle.walk.proofs.Copying.{spells-is}
+use Rattle.types.proofs.Trying.{made-used, made-refused}
 use Rattle.expressions.specs.Expressing.{nodes, nodesB, listWalk, Headed}
 use Rattle.expressions.proofs.Onward.{out-same, on, leads-moved, leads-on}
+use Rattle.expressions.proofs.Names.{called-same, number-spelled}
 use Rattle.statements.specs.Stating.{fits, leaving, stmWalk, behind, Follows}
 use Rattle.statements.proofs.Fit.{good-before, good-behind}
 
 -- WHAT IS COPIED
 
--- a number that was read, as it is written
-pub number-spells : {t : List ℕ} {at : ℕ} {m₁ : Read} {v n : ℕ} → Gives num t at m₁ → m₁ ≡ Number v n → Spells t at n (numB v)
-unfolding numberOf
-number-spells {t} {at} {v = v} {n} g e = let k : Counts = record { containers = 0; functions = 0; entries = 0; statements = 0 } in spells-num t (cursor at 0 k) (sym (g .is 0 k) ∙ ap (numberOf 0 k) e)
-
 -- a kind and the place behind it
 pub place-put : (kind : ℕ) {t : List ℕ} {at : ℕ} {m₁ : Read} {v n : ℕ} {w : Wrote} {o : List ℕ} {x : Wrote} {o′ : List ℕ} → Gives num t at m₁ → m₁ ≡ Number v n → Put w (numB kind ++ renumbered t at n) o x o′ → Put w (numB kind ++ placeB (record { number = v; from = at })) o x o′
 unfolding placeB
-place-put kind {w = w} {o} {x} {o′} g e p = subst (λ (ys : List ℕ). Put w (numB kind ++ ys) o x o′) (spells-is (number-spells g e)) p
+place-put kind {w = w} {o} {x} {o′} g e p = subst (λ (ys : List ℕ). Put w (numB kind ++ ys) o x o′) (spells-is (number-spelled g e)) p
 
 -- KINDS
 
@@ -105,19 +101,6 @@ module _ {t : List ℕ} {s : Walk} {m₁ : Read} (g : Gives num t (s .at) m₁) 
 
 -- METHOD CALL
 
-pub made-as-is : {from : ℕ} {u : Used} {y : Maybe Spot (Ident Spot)} {j : Identifier} → Made from u y → u ≡ U.As j → y ≡ ok (identOf from j)
-made-as-is {from} {j = j} (made-as {j = i}) e = let z : i ≡ j = cc in ap (λ (x : Identifier). ok (identOf from x)) z
-made-as-is (made-not q) e = absurd (let z : _≡_ {A = ℕ} 0 1 = cc in omega arith)
-
-pub made-not-is : {from : ℕ} {u : Used} {y : Maybe Spot (Ident Spot)} {f : Fault} → Made from u y → u ≡ U.Not f → (z : Poison Spot) × (y ≡ err z) × (faultB f ≡ poisonB z)
-made-not-is made-as e = absurd (let z : _≡_ {A = ℕ} 0 1 = cc in omega arith)
-made-not-is {f = f} (made-not {f = g} {z = z} q) e = let d : g ≡ f = cc in (z, refl, ap faultB (sym d) ∙ q)
-
-called-same : (x : Ident Spot) (b : ℕ) (u v : Analyzer Spot) → v .functionList ≡ u .functionList → useCalled x b v ≡ (useCalled x b u .0, v)
-unfolding useCalled useFunction S.ret
-called-same x zero u v e = rw e
-called-same x (suc b) u v e = refl
-
 -- the name is looked up among the same functions before the arguments as after
 method-pass : (x : Ident Spot) (b : ℕ) (es : Node Spot (listOf expr)) (u : Analyzer Spot) → analyzeStm (methodCall x b es) u ≡ (methodTo b (analyzeNode es u .0) (useCalled x b u .0), analyzeNode es u .1)
 unfolding analyzeStm S._>>=_ S.ret
@@ -167,15 +150,15 @@ module _ {t : List ℕ} {s : Walk} {r₁ : Identified} (g : Identifies t (s .scr
       unfolding readMethodCall
       method-as {v} {s₁} {o₁} made hd c = record {
         does = λ h a _ i.
-            let put = subst (λ (ys : List ℕ). Put (s .wrote) (numB 2 ++ (madeB v ++ ys)) o (hd .wrote) o₁) (spells-is (number-spells g₁ f)) (hd .put) in
+            let put = subst (λ (ys : List ℕ). Put (s .wrote) (numB 2 ++ (madeB v ++ ys)) o (hd .wrote) o₁) (spells-is (number-spelled g₁ f)) (hd .put) in
             let wr : Writes s (hd .wrote) (withWrote s (hd .wrote)) = record { is = refl } in
             let mv : Moves (withWrote s (hd .wrote)) n₁ s₁ = record { is = hd .is } in
-            leads-identified _ g e (leads-read _ (reads g₁) f (leads-on wr mv (leads-call _ c h (on i put wr mv) λ es q i₁. leads-end (methodCall _ b (toNodes es)) refl i₁ λ z. method-is _ b es a (made-as-is (looked b k (methodCall (identOf (s .at) j) b (toNodes es)) a i z) made))));
+            leads-identified _ g e (leads-read _ (reads g₁) f (leads-on wr mv (leads-call _ c h (on i put wr mv) λ es q i₁. leads-end (methodCall _ b (toNodes es)) refl i₁ λ z. method-is _ b es a (made-used (looked b k (methodCall (identOf (s .at) j) b (toNodes es)) a i z) made))));
       }
 
       pub method-refused : {v : Fault} {s₁ s₂ : Walk} {x : Wrote} {o₁ : List ℕ} → u ≡ U.Not v → Moves s n₁ s₁ → Walks t (listed (read left expr)) listWalk s₁ o l w s₂ o₁ l′ w′ → Put (s .wrote) (numB 8 ++ faultB v) o₁ x o′ → Writes s₂ x r → Follows P t (readMethodCall left) s o l w r o′ l′ w′
       unfolding readMethodCall behind
       method-refused {v} not mv c put wr = record {
         does = λ h a _ i. leads-identified _ g e (leads-read _ (reads g₁) f (leads-moved mv (leads-call _ c h (moved i mv) λ es q i₁.
-            leads-end (methodCall _ b (toNodes es)) (sym (here-wrote wr)) (instead i _ (nodes-grown es (a .st)) i₁ put wr) λ z. let y = made-not-is (looked b k (methodCall (identOf (s .at) j) b (toNodes es)) a i z) not in method-bad (identOf (s .at) j) b es a v (y .1) (y .2))));
+            leads-end (methodCall _ b (toNodes es)) (sym (here-wrote wr)) (instead i _ (nodes-grown es (a .st)) i₁ put wr) λ z. let y = made-refused (looked b k (methodCall (identOf (s .at) j) b (toNodes es)) a i z) not in method-bad (identOf (s .at) j) b es a v (y .1) (y .2))));
       }

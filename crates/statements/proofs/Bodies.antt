@@ -30,12 +30,11 @@ use Rattle.walk.specs.Walking.{Moves, Writes, Ground, Good, Is, onward, say, sa
 use Rattle.walk.proofs.Leading.{walks, leads-refused, leads-call, leads-end, is-same}
 use Rattle.walk.proofs.Writing.{moved, here-moved}
 use Rattle.walk.proofs.Choosing.{leads-unmaybe, leads-ok, leads-err}
-use Rattle.types.proofs.Trying.{leads-at}
+use Rattle.types.proofs.Trying.{leads-at, leads-just}
 use Rattle.expressions.proofs.Onward.{out-same, on, leads-moved, leads-on}
 use Rattle.statements.specs.Stating.{isFree, fitsBody, stmWalk, stmsWalk, stmsB, bodyWalk, bodyOkWalk, nameBody}
 use Rattle.statements.proofs.Fit.{ground-same, leaving-same}
 use Rattle.statements.proofs.Nesting.{grows-stms, good-stms}
-use Rattle.statements.proofs.Declaring.{leads-just}
 
 -- THE BODY'S NAME
 

@@ -6,7 +6,7 @@ use mathlib.Core.Option.{Option, none, some}
 use Prim.Native.Nat.{ℕ, _≤_, _<_}
 use native.Mathlib.Omega.{arith}
 use lib.ListN.{length}
-use Rattle.penne.specs.Reader.{Counts, Cur, got, Reader, _>>=_, ret, num}
+use Rattle.penne.specs.Reader.{Counts, Cur, _>>=_, ret, num}
 use Rattle.penne.specs.Tree.{Spot, Ident, Poison, Maybe, ok, err, Carried, expr, Expr, declaration}
 use Rattle.penne.specs.Read.{poisonFields, ident, maybe, option, readTy, read, readDeclaration}
 use Rattle.penne.specs.Write.{numB, placeB, poisonB, optionB, carriedB, nodeB, stmB}
@@ -31,16 +31,17 @@ use Rattle.walk.specs.declared.state.Walk.{Walk}
 use Rattle.walk.specs.declared.fault.Fault.{Fault}
 use Rattle.walk.specs.declared.names.Named.{Named}
 use Rattle.walk.specs.declared.names.Named.the-variants as N
-use Rattle.walk.specs.Walking.{Moves, Writes, here, Rest, Ground, Good, Is, onward, silently, say, Leads, Input, Walks, faultB, madeB, Made, Naming, walkOf, usedOf}
+use Rattle.walk.specs.Walking.{Moves, Writes, here, Rest, Ground, Good, Is, onward, silently, say, Input, Walks, faultB, madeB, Made, Naming, walkOf, usedOf}
 use Rattle.walk.specs.Calls.{DeclaresBy}
-use Rattle.walk.proofs.Leading.{same-value, same-cur, leads-bind, leads-refused, leads-place, leads-unplace, leads-call, leads-got, is-same}
+use Rattle.walk.proofs.Leading.{leads-bind, leads-refused, leads-place, leads-unplace, leads-call, leads-got, is-same}
 use Rattle.walk.proofs.Writing.{moved, wrote, counted, instead, out-is, here-moved}
 use Rattle.walk.proofs.Identifying.{identified-low}
+use Rattle.types.proofs.Trying.{made-used, made-refused, leads-just}
 use Rattle.expressions.proofs.Onward.{out-same, on, leads-on}
 use Rattle.statements.specs.Stating.{isFree, fits, leaving, stmWalk, behind, Follows, Entered, declaredB, Declares}
 use Rattle.statements.proofs.Free.{free-same, within-option, within-carried}
 use Rattle.statements.proofs.Fit.{ground-same, leaving-twice}
-use Rattle.statements.proofs.Arms.{place-put, made-as-is, made-not-is}
+use Rattle.statements.proofs.Arms.{place-put}
 
 -- THE NAME
 
@@ -57,10 +58,6 @@ free-none a e = go (a .containment .inConstexprOfConstant) e
 pub fitting : {s : Walk} {o l w : List ℕ} {a : Ground} (b : Bool) → Is s o l w a → Is s o l w (record { out = a .out; st = a .st; rest = leaving (a .rest .words) b (a .rest) })
 unfolding leaving
 fitting {s} {a = a} b i = counted i {k = s .counts} (leaving (a .rest .words) b (a .rest)) (omega arith) refl refl refl (λ f. and-true _ _ f .0) (λ f m. record { told = m .told; named = m .named; labels = m .labels; containers = m .containers; functions = m .functions; main = m .main }) (record { is = refl })
-
--- all that is read
-pub leads-just : {A : Type 0} {t : List ℕ} {P : A → Cur → Type 0} {m : Reader A} {c : Cur} {y : A} {e : Cur} → m t c ≡ got y e → P y e → Leads m t c P
-leads-just {A} {P = P} {y = y} h k = record { to = λ x d g. let q = sym h ∙ g in subst (λ (z : A). P z d) (same-value q) (subst (λ (b : Cur). P y b) (same-cur q) k) }
 
 -- the ground before the name, and after it
 abbrev before-name : Ground → List ℕ → Analyzer Spot → Ground
@@ -79,7 +76,7 @@ unfolding declaredB
 name-bad a xs b i f e q = out-same (ap (λ (ys : List ℕ). a .out ++ (numB 8 ++ ys)) q ∙ ap (λ (y : Maybe Spot (Ident Spot)). a .out ++ declaredB xs y) (sym e))
 
 -- where the walk is behind the name
-behind-name : (s : Walk) {s₁ s₂ r : Walk} {n : ℕ} {x : Wrote} → here s₁ ≡ here s → Writes s₁ x s₂ → Moves s₂ n r → cursor n (s .script .names) (countsOf (s .counts)) ≡ here r
+pub behind-name : (s : Walk) {s₁ s₂ r : Walk} {n : ℕ} {x : Wrote} → here s₁ ≡ here s → Writes s₁ x s₂ → Moves s₂ n r → cursor n (s .script .names) (countsOf (s .counts)) ≡ here r
 behind-name s {n = n} c wr mv = sym (here-moved mv ∙ ap (λ (y : Walk). cursor n (y .script .names) (countsOf (y .counts))) (wr .is) ∙ ap (λ (y : Cur). cursor n (y .names) (y .counts)) c)
 
 module _ {t : List ℕ} {s : Walk} {r₁ : Identified} (g : Identifies t (s .script .names) (s .at) r₁) {o w : List ℕ} where
@@ -104,7 +101,7 @@ module _ {t : List ℕ} {s : Walk} {r₁ : Identified} (g : Identifies t (s .scr
           let i₁ = subst (λ (y : Named). Is (walkOf y) o l w′ (silently (declareVariable 4) (identOf (s .at) j) (before-name a xs b))) fine (m .is) in
           leads-just (sym (g .is _) ∙ ap (identifiedOf (s .script .names) (s .at) (countsOf (s .counts))) e) (record {
             cur = behind-name s c wr mv;
-            is = is-same (λ z. name-fine a xs b (identOf (s .at) j) (made-as-is (subst (λ (y : Named). Made (s .at) (usedOf y) (declareVariable 4 (identOf (s .at) j) b .0)) fine (m .made (record { few = z .few; fit = z .fit }))) refl)) (moved (wrote i₁ put wr) mv);
+            is = is-same (λ z. name-fine a xs b (identOf (s .at) j) (made-used (subst (λ (y : Named). Made (s .at) (usedOf y) (declareVariable 4 (identOf (s .at) j) b .0)) fine (m .made (record { few = z .few; fit = z .fit }))) refl)) (moved (wrote i₁ put wr) mv);
           });
     }
 
@@ -119,7 +116,7 @@ module _ {t : List ℕ} {s : Walk} {r₁ : Identified} (g : Identifies t (s .scr
           let i₂ = instead (fitting (isFree b) i₀) xs (omega arith) i₁ (subst (λ (y : Wrote). Put y (numB 8 ++ faultB f) o x o′) q put) wr in
           leads-just (sym (g .is _) ∙ ap (identifiedOf (s .script .names) (s .at) (countsOf (s .counts))) e) (record {
             cur = behind-name s c wr mv;
-            is = is-same (λ z. let y = made-not-is (subst (λ (y : Named). Made (s .at) (usedOf y) (declareVariable 4 (identOf (s .at) j) b .0)) not (m .made (record { few = z .few; fit = z .fit }))) refl in name-bad a xs b (identOf (s .at) j) f (y .1) (y .2)) (moved i₂ mv);
+            is = is-same (λ z. let y = made-refused (subst (λ (y : Named). Made (s .at) (usedOf y) (declareVariable 4 (identOf (s .at) j) b .0)) not (m .made (record { few = z .few; fit = z .fit }))) refl in name-bad a xs b (identOf (s .at) j) f (y .1) (y .2)) (moved i₂ mv);
           });
     }
 

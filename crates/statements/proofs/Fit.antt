@@ -11,8 +11,9 @@ use Rattle.penne.specs.State as S
 use Rattle.penne.specs.Scopes.{Analyzer}
 use Rattle.penne.specs.Variables.{analyzeStm}
 use Rattle.penne.proofs.IdsPass.{grown-stm}
+use Rattle.penne.proofs.Booleans.{and-true as and-yes}
 use Rattle.label_references.specs.Marked.{marked, rest}
-use Rattle.containers.proofs.Lists.{and-yes, and-true}
+use Rattle.containers.proofs.Lists.{and-true}
 use Rattle.walk.specs.Walking.{Rest, Ground, Good}
 use Rattle.walk.proofs.Leading.{Listed}
 use Rattle.statements.specs.Stating.{isFree, fits, leaving, stmWalk, behind}

@@ -1,7 +1,7 @@
 -- The label pass's own words fit the statements.
 use mathlib.Core.Path.{_≡_, refl, sym, ap, subst, _∙_}
 use mathlib.Core.Bool.{Bool, true, false, _&&_}
-use mathlib.Core.List.{List, [], _∷_, _++_, map}
+use mathlib.Core.List.{List, [], _∷_, _++_, map, append-assoc}
 use mathlib.Core.Option.{Option, none, some}
 use Prim.Native.Nat.{ℕ, zero, suc, _+_, _-_, _≤_, _<_}
 use native.Mathlib.Omega.{arith}
@@ -11,11 +11,12 @@ use borrow.Author.Tests.{le-leb, lt-leb, leb-true, leb-false, eq-eqb}
 use Rattle.penne.specs.Find.{first, firstNamed}
 use Rattle.penne.specs.Tree.{Spot, Ident, StmSort, Stm, nil′, cons′, declaration, assignment, methodCall, loop, goto, label, ifElse, block, badStmt, noElse, orElse, Maybe, ok, err, Body}
 use Rattle.penne.specs.Labels.{Labels, labels}
+use Rattle.penne.proofs.Searching.{first-hit, first-miss}
+use Rattle.penne.proofs.Booleans.{both-true, some-same}
 use Rattle.label_references.specs.Outcomes.{gotoWord, labelWord, outcomes, labelsIn, statementsIn, bodyOutcomes, bodyLabels}
 use Rattle.label_references.specs.Table.{Along, stop, step}
 use Rattle.label_references.specs.Marked.{placeOf, marked, rest, Numbered, Known, none-known, one-known}
 use Rattle.label_references.proofs.Marking.{marks}
-use Rattle.label_references.proofs.Finding.{first-hit, first-miss}
 use Rattle.statements.specs.Stating.{sameLabel, fitGoto, fitLabel, fits, fitsBody}
 
 -- the label i stands in the list of all, by its id
@@ -25,7 +26,7 @@ pub record Sits (all : List (Ident Spot)) (id : ℕ) (i : Ident Spot) : Type 0 w
   pub high : id ≤ 1024
   pub inside : id ≤ length all
 
-place-at : (all : List (Ident Spot)) (m : ℕ) → m < length all → (p : Spot) (d : Ident Spot) → getD (map (λ i. i .place) all) m p ≡ (getD all m d) .place
+pub place-at : (all : List (Ident Spot)) (m : ℕ) → m < length all → (p : Spot) (d : Ident Spot) → getD (map (λ i. i .place) all) m p ≡ (getD all m d) .place
 place-at [] m h p d = absurd (omega arith)
 place-at (x ∷ xs) zero h p d = refl
 place-at (x ∷ xs) (suc m) h p d = place-at xs m (omega arith) p d
@@ -89,9 +90,6 @@ found-low {all} name (one-known {i = i} {is = js} n k) j e = (elim (eqb (i .name
   | true ↦ λ z. let q : i ≡ j = some-same (sym (first-hit (λ (x : Ident Spot). eqb (x .name) name) i js z) ∙ e) in let low = n .low in omega (arith, ap (λ (x : Ident Spot). x .id) q)
   | false ↦ λ z. found-low name k j (sym (first-miss (λ (x : Ident Spot). eqb (x .name) name) i js z) ∙ e)
 ]) refl
-  where
-    some-same : {x y : Ident Spot} → some x ≡ some y → x ≡ y
-    some-same e = cc
 
 -- A LABEL'S WORD
 
@@ -121,13 +119,6 @@ label-word {all} {js} i id s k = go (firstNamed (i .name) js) refl
 
 -- THE WORDS OF A STATEMENT
 
-pub assoc : (xs ys zs : List ℕ) → (xs ++ ys) ++ zs ≡ xs ++ (ys ++ zs)
-assoc [] ys zs = refl
-assoc (x ∷ xs) ys zs = ap (λ (r : List ℕ). x ∷ r) (assoc xs ys zs)
-
-both : {a b : Bool} → a ≡ true → b ≡ true → a && b ≡ true
-both e f = rw (e, f)
-
 pub fits-stm : {s : StmSort} {all : List (Ident Spot)} (t : Stm Spot s) (l : Labels Spot) {n : ℕ} → Along (Sits all) (l .resolutionId) (labelsIn t) n → Known all (l .labelStack) → (os : List ℕ) → fits all true t (outcomes t l ++ os) ≡ true
 unfolding fits outcomes labelsIn fitGoto rest
 fits-stm nil′ l a k os = refl
@@ -137,8 +128,8 @@ fits-stm {all = all} (cons′ t ts) l {n} a k os =
     let l₁ = labels ts l .1 in
     let right : Along (Sits all) (l₁ .resolutionId) (labelsIn t) n = subst (λ (i : ℕ). Along (Sits all) i (labelsIn t) n) (m .next) (s .right) in
     let m₁ = marks t l₁ (numbered-along right) (m .known) in
-    ap (λ (v : List ℕ). fits all true t v && fits all true ts (marked all t v .1)) (assoc (outcomes t l₁) (outcomes ts l) os)
-    ∙ both (fits-stm t l₁ right (m .known) (outcomes ts l ++ os)) (ap (λ (z : Stm Spot _ × List ℕ). fits all true ts (z .1)) (m₁ .words (outcomes ts l ++ os)) ∙ fits-stm ts l (s .left) k os)
+    ap (λ (v : List ℕ). fits all true t v && fits all true ts (marked all t v .1)) (append-assoc (outcomes t l₁) (outcomes ts l) os)
+    ∙ both-true _ _ (fits-stm t l₁ right (m .known) (outcomes ts l ++ os)) (ap (λ (z : Stm Spot _ × List ℕ). fits all true ts (z .1)) (m₁ .words (outcomes ts l ++ os)) ∙ fits-stm ts l (s .left) k os)
 fits-stm (declaration p v t i) l a k os = refl
 fits-stm (assignment p v r) l a k os = refl
 fits-stm (methodCall i b es) l a k os = refl
@@ -150,8 +141,8 @@ fits-stm {all = all} (ifElse p op q r x y t e) l {n} a k os =
     let m = marks t l (numbered-along (s .left)) k in
     let l₁ = labels t l .1 in
     let right : Along (Sits all) (l₁ .resolutionId) (labelsIn e) n = subst (λ (i : ℕ). Along (Sits all) i (labelsIn e) n) (m .next) (s .right) in
-    ap (λ (v : List ℕ). fits all true t v && fits all true e (marked all t v .1)) (assoc (outcomes t l) (outcomes e l₁) os)
-    ∙ both (fits-stm t l (s .left) k (outcomes e l₁ ++ os)) (ap (λ (z : Stm Spot _ × List ℕ). fits all true e (z .1)) (m .words (outcomes e l₁ ++ os)) ∙ fits-stm e l₁ right (m .known) os)
+    ap (λ (v : List ℕ). fits all true t v && fits all true e (marked all t v .1)) (append-assoc (outcomes t l) (outcomes e l₁) os)
+    ∙ both-true _ _ (fits-stm t l (s .left) k (outcomes e l₁ ++ os)) (ap (λ (z : Stm Spot _ × List ℕ). fits all true e (z .1)) (m .words (outcomes e l₁ ++ os)) ∙ fits-stm e l₁ right (m .known) os)
 fits-stm (block p ts) l a k os = fits-stm ts l a k os
 fits-stm (badStmt z) l a k os = refl
 fits-stm noElse l a k os = refl
@@ -168,14 +159,10 @@ nth-go : (pre : List (Ident Spot)) (x : Ident Spot) (xs : List (Ident Spot)) (d 
 nth-go [] x xs d = refl
 nth-go (y ∷ pre) x xs d = nth-go pre x xs d
 
-assoc-labels : (xs ys zs : List (Ident Spot)) → (xs ++ ys) ++ zs ≡ xs ++ (ys ++ zs)
-assoc-labels [] ys zs = refl
-assoc-labels (x ∷ xs) ys zs = ap (λ (r : List (Ident Spot)). x ∷ r) (assoc-labels xs ys zs)
-
 sits-go : (pre xs : List (Ident Spot)) → length pre + length xs ≤ 1024 → Along (Sits (pre ++ xs)) (length pre + 1) xs (length pre + 1 + length xs)
 sits-go pre [] h = let e : length pre + 1 ≡ length pre + 1 + 0 = omega arith in subst (λ (i : ℕ). Along (Sits (pre ++ [])) (length pre + 1) [] i) e stop
 sits-go pre (x ∷ xs) h =
-    let f : (pre ++ (x ∷ [])) ++ xs ≡ pre ++ (x ∷ xs) = assoc-labels pre (x ∷ []) xs in
+    let f : (pre ++ (x ∷ [])) ++ xs ≡ pre ++ (x ∷ xs) = append-assoc pre (x ∷ []) xs in
     let c : length (pre ++ (x ∷ [])) ≡ length pre + 1 = length-append pre (x ∷ []) in
     let all : length (pre ++ (x ∷ xs)) ≡ length pre + suc (length xs) = length-append pre (x ∷ xs) in
     let a = sits-go (pre ++ (x ∷ [])) xs (omega arith) in

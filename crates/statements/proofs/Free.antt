@@ -18,7 +18,7 @@ pub record Within (a b : Analyzer Spot) : Type 0 where
 within-none : {a : Analyzer Spot} → Within a a
 within-none = record { is = refl }
 
-within-then : {a b c : Analyzer Spot} → Within a b → Within b c → Within a c
+pub within-then : {a b c : Analyzer Spot} → Within a b → Within b c → Within a c
 within-then f g = record { is = g .is ∙ f .is }
 
 pub free-same : {a b : Analyzer Spot} → Within a b → isFree b ≡ isFree a

@@ -1,7 +1,7 @@
 -- Gotos and labels, by the words that the label pass decided.
 use mathlib.Core.Path.{_≡_, refl, sym, ap, subst, _∙_}
 use mathlib.Core.Bool.{Bool, true, false, _&&_}
-use mathlib.Core.List.{List, [], _∷_, _++_, map}
+use mathlib.Core.List.{List, [], _∷_, _++_}
 use Prim.Native.Nat.{ℕ, zero, suc, _+_, _-_, _≤_, _<_}
 use native.Mathlib.Omega.{arith}
 use lib.Dec.{leb, eqb}
@@ -41,6 +41,7 @@ use Rattle.expressions.proofs.Onward.{out-same, on, leads-on}
 use Rattle.statements.specs.Stating.{sameLabel, fitGoto, fitLabel, fits, leaving, stmWalk, behind, Follows, Worded, Prepares, Prunes, LabelPlace}
 use Rattle.statements.proofs.Fit.{ground-same, leaving-twice, good-before, good-behind}
 use Rattle.statements.proofs.Declaring.{fitting}
+use Rattle.statements.proofs.Fitting.{place-at}
 
 -- THE TABLE OF THE SCOPES
 
@@ -71,11 +72,6 @@ along-at : {w : List ℕ} (all : List (Ident Spot)) (k m : ℕ) {n : ℕ} → Al
 along-at [] k m a h d = absurd (omega arith)
 along-at {w} (x ∷ xs) k zero (step p a) h d = let e : k ≡ k + 0 = omega arith in subst (λ (i : ℕ). Named w i x) e p
 along-at {w} (x ∷ xs) k (suc m) (step p a) h d = let e : k + 1 + m ≡ k + suc m = omega arith in subst (λ (i : ℕ). Named w i (getD xs m d)) e (along-at xs (k + 1) m a (omega arith) d)
-
-place-at : (all : List (Ident Spot)) (m : ℕ) → m < length all → (p : Spot) (d : Ident Spot) → getD (map (λ i. i .place) all) m p ≡ (getD all m d) .place
-place-at [] m h p d = absurd (omega arith)
-place-at (x ∷ xs) zero h p d = refl
-place-at (x ∷ xs) (suc m) h p d = place-at xs m (omega arith) p d
 
 module _ {n : K.Counts} {w : List ℕ} {m : Rest} (h : Marks n w m) (x : Ident Spot) {id : ℕ} (low : 0 < id) (high : id ≤ length (m .labels)) where
   labelled : Named w id (getD (m .labels) (id - 1) x)

@@ -28,10 +28,11 @@ use Rattle.walk.proofs.Copying.{spells-is, spells-join, spelled-operator}
 use Rattle.walk.proofs.Choosing.{leads-untagged, leads-first, leads-second}
 use Rattle.types.proofs.Trying.{leads-at}
 use Rattle.expressions.proofs.Onward.{out-same, on, leads-on}
+use Rattle.expressions.proofs.Names.{number-spelled}
 use Rattle.statements.specs.Stating.{isFree, fits, leaving, stmWalk, stmsWalk, stmsB, behind, Follows}
 use Rattle.statements.proofs.Free.{free-same, within-node}
 use Rattle.statements.proofs.Fit.{ground-same, leaving-same, leaving-twice, cons-rest, good-before}
-use Rattle.statements.proofs.Arms.{number-spells, place-put}
+use Rattle.statements.proofs.Arms.{place-put}
 
 -- IF
 
@@ -63,7 +64,7 @@ module _ {t : List ℕ} {s : Walk} {m₁ : Read} (g : Gives num t (s .at) m₁) 
     unfolding readIf placeB
     branched {x = x} {o₁ = o₁} f put wr mv k₁ k₂ k₃ k₄ = record {
       does = λ h a _ i. leads-place _ g e (leads-operator _ g₂ f λ op q u z.
-          let sp = spells-join (number-spells g e) (spelled-operator .is t _ _ _ z) in
+          let sp = spells-join (number-spelled g e) (spelled-operator .is t _ _ _ z) in
           leads-on wr mv (leads-call _ k₁ h (on i (subst (λ (ys : List ℕ). Put (s .wrote) (numB 6 ++ ys) o x o₁) (spells-is sp) put) wr mv) λ y₁ j₁ i₁. leads-call _ k₂ h i₁ λ y₂ j₂ i₂. leads-call _ k₃ h i₂ λ y₃ j₃ i₃. leads-call _ k₄ h i₃ λ y₄ j₄ i₄.
           leads-end (ifElse _ op q u y₁ y₂ y₃ y₄) refl i₄ λ _. if-is _ op q u y₁ y₂ y₃ y₄ a));
     }

@@ -10,10 +10,11 @@ use lib.ListN.{length, getD, drop, set, length-set}
 use lib.Seq.{drop-cons, getD-set-same, getD-set-other}
 use borrow.Author.Tests.{eq-eqb, ne-eqb}
 use Rattle.penne.specs.Read.{sameBytes, amongNames}
+use Rattle.penne.proofs.Booleans.{true-false, or-right, or-left}
 use Rattle.tree.specs.declared.number.Read.{Read}
 use Rattle.tree.specs.declared.number.Read.the-variants.{Number, Refused}
 use Rattle.tree.specs.Names.{part, namesFrom, namesEnd, hashFrom, hashOf, markOf, metBy, Marks, Marked, Knows, Noted}
-use Rattle.tree.proofs.Names.{same-eq, true-not, refused-not}
+use Rattle.tree.proofs.Names.{same-eq, refused-not}
 
 -- A NAME'S NUMBER
 
@@ -42,13 +43,6 @@ module _ {name : List ℕ} {h i : ℕ} (g : Hashing name h i) where
       none-left (x ∷ xs) (suc j) l = none-left xs j (omega arith)
 
 -- CELLS
-
-or-right : (a b : Bool) → b ≡ true → (a || b) ≡ true
-or-right true b e = refl
-or-right false b e = e
-
-or-left : (a b : Bool) → a ≡ true → (a || b) ≡ true
-or-left a b e = ap (λ (t : Bool). t || b) e
 
 module _ (cells : List ℕ) (h : ℕ) where
   abbrev cell : ℕ
@@ -98,7 +92,7 @@ module _ (cells : List ℕ) (h : ℕ) where
   marks-free {v} e z = record {
     long = length-set cells (h % 8192) v;
     has = λ l. met-mark (put v) h (there l v ∙ z);
-    keeps = λ l. keeps-all v λ j q m. true-not (sym m ∙ met-free cells j (ap (λ (k : ℕ). getD cells k 0) q ∙ e));
+    keeps = λ l. keeps-all v λ j q m. true-false (sym m ∙ met-free cells j (ap (λ (k : ℕ). getD cells k 0) q ∙ e));
   }
 
   pub marks-several : Marks cells h (put 65535)
@@ -114,7 +108,7 @@ among-case : {X : Type 0} (y x : List ℕ) (names : List (List ℕ)) → amongNa
 unfolding amongNames
 among-case {X} y x [] e f g = (elim (sameBytes y x) as (λ t. sameBytes y x ≡ t → (t || false) ≡ true → X) [
   | true ↦ λ z h. g (same-eq y x z)
-  | false ↦ λ z h. true-not (sym h)
+  | false ↦ λ z h. true-false (sym h)
 ]) refl e
 among-case {X} y x (n ∷ ns) e f g = (elim (sameBytes y n) as (λ t. sameBytes y n ≡ t → (t || amongNames y (ns ++ (x ∷ []))) ≡ true → X) [
   | true ↦ λ z h. f (or-left (sameBytes y n) (amongNames y ns) z)
@@ -123,7 +117,7 @@ among-case {X} y x (n ∷ ns) e f g = (elim (sameBytes y n) as (λ t. sameBytes 
 
 pub marked-none : (cells : List ℕ) → length cells ≡ 8192 → Marked cells []
 unfolding amongNames
-marked-none cells l = record { long = l; is = λ y e. true-not (sym e) }
+marked-none cells l = record { long = l; is = λ y e. true-false (sym e) }
 
 module _ {cells : List ℕ} (name : List ℕ) {names : List (List ℕ)} (m : Marked cells names) where
   marked-beside : metBy cells (hashOf name) ≡ true → Marked cells (names ++ (name ∷ []))
@@ -138,7 +132,7 @@ module _ {cells : List ℕ} (name : List ℕ) {names : List (List ℕ)} (m : Mar
 
     pub known-new : {after : List ℕ} → t ≡ false → Marks cells h after → Knows names name false after
     known-new {after} q k = record {
-      is = (elim (amongNames name names) as (λ b. amongNames name names ≡ b → false ≡ b) [ true ↦ λ w. true-not (sym (m .is name w) ∙ met-name ∙ q) | false ↦ λ w. refl ]) refl;
+      is = (elim (amongNames name names) as (λ b. amongNames name names ≡ b → false ≡ b) [ true ↦ λ w. true-false (sym (m .is name w) ∙ met-name ∙ q) | false ↦ λ w. refl ]) refl;
       marked = marked-after (record { long = k .long ∙ m .long; is = λ y w. k .keeps (m .long) (hashOf y) (m .is y w) });
     }
       where

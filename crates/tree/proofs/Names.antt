@@ -12,6 +12,7 @@ use lib.Seq.{drop-cons, drop-length, take-all, take-nil}
 use borrow.Author.Tests.{eq-eqb, ne-eqb, lt-ltb, le-ltb, ltb-true, ltb-false, leb-true, eqb-true, eqb-false}
 use Rattle.penne.specs.Reader.{Counts, Cur, Got, got, refused, Reader, _>>=_, ret, num, groups, lastGroup, moved, such, raw, nothing}
 use Rattle.penne.specs.Read.{sameBytes, amongNames, readNames}
+use Rattle.penne.proofs.Booleans.{and-right, true-false}
 use Rattle.tree.specs.declared.number.Read.{Read}
 use Rattle.tree.specs.declared.number.Read.the-variants.{Number, Refused}
 use Rattle.tree.specs.Answers.{cursor, numberOf, endOf, forget, Gives, Reads, Skips}
@@ -22,9 +23,6 @@ use Rattle.tree.specs.Names.{part, behind, namesFrom, namesEnd, tableOf,
 
 -- PARTS
 
-pub true-not : {X : Type 0} → true ≡ false → X
-true-not e = let y : _≡_ {A = ℕ} 0 1 = cc in absurd (omega arith)
-
 -- so far the two are the same, from the end on
 pub record SameBehind (a b : List ℕ) (i : ℕ) : Type 0 where
   pub same : (j : ℕ) → i ≤ j → j < length a → getD a j 0 ≡ getD b j 0
@@ -34,11 +32,11 @@ pub record SameBehind (a b : List ℕ) (i : ℕ) : Type 0 where
 pub same-eq : (a b : List ℕ) → sameBytes a b ≡ true → a ≡ b
 unfolding sameBytes
 same-eq [] [] e = refl
-same-eq [] (y ∷ ys) e = true-not (sym e)
-same-eq (x ∷ xs) [] e = true-not (sym e)
+same-eq [] (y ∷ ys) e = true-false (sym e)
+same-eq (x ∷ xs) [] e = true-false (sym e)
 same-eq (x ∷ xs) (y ∷ ys) e = (elim (eqb x y) as (λ t. eqb x y ≡ t → (t && sameBytes xs ys) ≡ true → x ∷ xs ≡ y ∷ ys) [
   | true ↦ λ z h. λ i. eqb-true x y z i ∷ same-eq xs ys h i
-  | false ↦ λ z h. true-not (sym h)
+  | false ↦ λ z h. true-false (sym h)
 ]) refl e
 
 not-same : (a b : List ℕ) → (a ≡ b → ⊥) → false ≡ sameBytes a b
@@ -147,13 +145,6 @@ got-is e = (cc, cc)
 
 got-not : {x n p : ℕ} {c : Cur} → _≡_ {A = Got ℕ} (refused n p) (got x c) → ⊥
 got-not e = let y : _≡_ {A = ℕ} 0 1 = cc in omega arith
-
-and-right : (a b : Bool) → (a && b) ≡ true → b ≡ true
-and-right true b e = e
-and-right false b e = absurd (false-true e)
-  where
-    false-true : false ≡ true → ⊥
-    false-true e = let y : _≡_ {A = ℕ} 0 1 = cc in omega arith
 
 -- the last of several groups is not empty, so that the number is at least their weight
 not-empty : (b w : ℕ) → 128 ≤ w → (not (eqb b 0) || eqb w 1) ≡ true → 0 < b

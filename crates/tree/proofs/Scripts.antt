@@ -11,6 +11,7 @@ use borrow.Author.Tests.{lt-ltb, le-ltb}
 use Rattle.penne.specs.Reader.{Counts, Cur, Got, got, refused, Reader, _>>=_, ret, num, below, such, many, listed, each, fits, plus, counting, nothing}
 use Rattle.penne.specs.Tree.{Spot, Decl, Tree}
 use Rattle.penne.specs.Read.{readNames, tabled, readTree, ended, decode, incoming, answered, readDecl, declHead, declOf, DeclKind, declKinds, declCounts, kConstant, kFunction, kFunctionHead, kStructure, kImport, kBadDecl, readConstant, readFunction, readFunctionHead, readStructure, readImport}
+use Rattle.penne.proofs.Leading.{same-value, same-cur, never as got-never}
 use Rattle.tree.specs.declared.number.Read.{Read}
 use Rattle.tree.specs.declared.number.Read.the-variants.{Number, Refused}
 use Rattle.tree.specs.declared.counts.Counts as C
@@ -32,15 +33,6 @@ use Rattle.tree.proofs.Statements.{kind-value}
 
 -- BACK FROM AN ANSWER
 
-pub got-never : {X A : Type 0} {a : A} {c : Cur} {n p : ℕ} → _≡_ {A = Got A} (refused n p) (got a c) → X
-got-never e = let z : _≡_ {A = ℕ} 0 1 = cc in absurd (omega arith)
-
-pub got-value : {A : Type 0} {a b : A} {c d : Cur} → got a c ≡ got b d → a ≡ b
-got-value e = cc
-
-pub got-cursor : {A : Type 0} {a b : A} {c d : Cur} → got a c ≡ got b d → c ≡ d
-got-cursor e = cc
-
 bind-go : {A B X : Type 0} (f : A → Reader B) (s : List ℕ) (q : Got A) {b : B} {d : Cur} → after f s q ≡ got b d → ((a : A) (c : Cur) → q ≡ got a c → f a s c ≡ got b d → X) → X
 bind-go f s (got a c) e next = next a c refl e
 bind-go f s (refused i p) e next = got-never e
@@ -51,11 +43,11 @@ bind-case m f s c e next = bind-go f s (m s c) e next
 
 pub many-case : {A X : Type 0} (m : Reader A) (n : ℕ) (s : List ℕ) (c : Cur) {xs : List A} {d : Cur} → many m (suc n) s c ≡ got xs d → ((a : A) (c′ : Cur) (rest : List A) → m s c ≡ got a c′ → many m n s c′ ≡ got rest d → xs ≡ a ∷ rest → X) → X
 unfolding many ret
-many-case m n s c e next = bind-case m _ s c e λ a c₁ h e₁. bind-case (many m n) _ s c₁ e₁ λ rest c₂ h₂ e₂. next a c₁ rest h (h₂ ∙ ap (got rest) (got-cursor e₂)) (sym (got-value e₂))
+many-case m n s c e next = bind-case m _ s c e λ a c₁ h e₁. bind-case (many m n) _ s c₁ e₁ λ rest c₂ h₂ e₂. next a c₁ rest h (h₂ ∙ ap (got rest) (same-cur e₂)) (sym (same-value e₂))
 
 pub many-length : {A : Type 0} (m : Reader A) (n : ℕ) (s : List ℕ) (c : Cur) {xs : List A} {d : Cur} → many m n s c ≡ got xs d → length xs ≡ n
 unfolding many ret
-many-length m zero s c e = ap length (sym (got-value e))
+many-length m zero s c e = ap length (sym (same-value e))
 many-length m (suc n) s c e = many-case m n s c e λ a c₁ rest h₁ h₂ z. ap length z ∙ ap suc (many-length m n s c₁ h₂)
 
 -- DEPTHS AS THEY COME IN
@@ -103,7 +95,7 @@ yields-bind m f h = record { all = λ s c b d e. bind-case m f s c e λ a c′ _
 
 pub yields-ret : {A : Type 0} (P : A → Type 0) (a : A) → P a → Yields P (ret a)
 unfolding ret
-yields-ret P a h = record { all = λ s c b d e. subst P (got-value e) h }
+yields-ret P a h = record { all = λ s c b d e. subst P (same-value e) h }
 
 -- the depth of what was read goes by its kind
 abbrev Deep : DeclKind → Decl Spot → Type 0
@@ -121,7 +113,7 @@ deep kBadDecl = yields-bind _ _ λ z. yields-ret _ _ refl
 -- the kind that counting hands on is the one that was read
 counted-kind : {A : Type 0} (f : A → Counts) (m : Reader A) (s : List ℕ) (c : Cur) {a b : A} {next d : Cur} → m s c ≡ got a next → counting f m s c ≡ got b d → a ≡ b
 counted-kind f m s c {a} {b} {next} e h = (elim (fits (plus (next .counts) (f a))) as (λ t. fits (plus (next .counts) (f a)) ≡ t → a ≡ b) [
-  | true ↦ λ z. got-value (sym (counting-fits f m s c e z) ∙ h)
+  | true ↦ λ z. same-value (sym (counting-fits f m s c e z) ∙ h)
   | false ↦ λ z. got-never (sym (counting-full f m s c e z) ∙ h)
 ]) refl
 
@@ -197,7 +189,7 @@ module _ {s : List ℕ} {l : Layout} {rest declared : ℕ} {k : C.Counts} {cur :
   unfolding each many ret
   again-done z = record {
     ends = g .on _ λ ds c q.
-        subst (λ (xs : List (Decl Spot)). Ends (each answered xs) s (l .names) cur (Number 0 cur)) (got-value (sym (ap (λ (j : ℕ). many readDecl j s here-c) z) ∙ q)) (ends-ret _);
+        subst (λ (xs : List (Decl Spot)). Ends (each answered xs) s (l .names) cur (Number 0 cur)) (same-value (sym (ap (λ (j : ℕ). many readDecl j s here-c) z) ∙ q)) (ends-ret _);
   }
 
 -- THE LAYOUT
@@ -235,7 +227,7 @@ module _ (depth : Decl Spot → Reader ℕ) where
   abbrev names-of : ℕ → Reader (Tree Spot)
   names-of n = readNames n [] >>= λ ns. decls-of n ns
 
-forget-got : {A : Type 0} (q : Got A) {c : Cur} → got tt c ≡ forget q → (a : A) × (q ≡ got a c)
+pub forget-got : {A : Type 0} (q : Got A) {c : Cur} → got tt c ≡ forget q → (a : A) × (q ≡ got a c)
 unfolding forget
 forget-got (got a d) e = (a, ap (got a) (sym (here e)))
 forget-got (refused i p) e = never e

@@ -21,7 +21,7 @@ use Rattle.tree.proofs.Fields.{getD-past}
 -- THE KIND
 
 -- a run of equal entries of a table
-run : {A : Type 0} (l : List A) (from n : ℕ) (x d : A) → take n (drop from l) ≡ replicate n x → (k : ℕ) → from ≤ k → k < from + n → getD l k d ≡ x
+pub run : {A : Type 0} (l : List A) (from n : ℕ) (x d : A) → take n (drop from l) ≡ replicate n x → (k : ℕ) → from ≤ k → k < from + n → getD l k d ≡ x
 run l from n x d e k lo hi =
     let i = k - from in
     let z : from + i ≡ k = omega arith in

@@ -4,11 +4,10 @@ use mathlib.Core.Bool.{Bool, true, false}
 use mathlib.Core.Logic.{_⊎_, inl, inr}
 use mathlib.Core.List.{List, _++_, append-assoc, append-nil}
 use mathlib.Core.Option.{Option, none, some}
-use Prim.Native.Nat.{ℕ, zero, suc, _+_, _-_, _≤_, _<_}
+use Prim.Native.Nat.{ℕ, zero, suc, _-_, _≤_, _<_}
 use native.Mathlib.Omega.{arith}
 use lib.Dec.{eqb}
-use lib.ListN.{getD, take, drop, replicate, getD-replicate}
-use lib.Seq.{getD-take, getD-drop}
+use lib.ListN.{getD}
 use borrow.Author.Tests.{eqb-true, eqb-false}
 use Rattle.penne.specs.Reader.{Counts, Cur, Reader, _>>=_, ret, num, below}
 use Rattle.penne.specs.Tree.{Spot, Ident, Poison, Maybe, ok, err, Ty, plain, array, arrayWithNamedLength, arraylike, struct, word, unresolved, nameless, pointer, view}
@@ -22,6 +21,7 @@ use Rattle.tree.specs.declared.number.Read.{Read}
 use Rattle.tree.specs.declared.number.Read.the-variants.{Number, Refused}
 use Rattle.tree.specs.Answers.{cursor, numberOf, Gives}
 use Rattle.tree.proofs.Fields.{getD-past}
+use Rattle.tree.proofs.Types.{run}
 use Rattle.answer.specs.declared.wrote.Wrote.{Wrote}
 use Rattle.answer.specs.Out.{Put}
 use Rattle.walk.specs.declared.state.Walk.{Walk}
@@ -54,14 +54,6 @@ module _ (own : Bool) {t : List ℕ} {P : Ty Spot → Cur → Type 0} {names at 
       let u = sym (ap (numberOf names k) e) ∙ g .is names k ∙ j in
       subst (λ (x : ℕ). Leads (tyOf (readTy l own) (readTy l false) x (getD tyKinds x kPlain)) t d P) (same-value u) (subst (λ (c : Cur). Leads (tyOf (readTy l own) (readTy l false) v (getD tyKinds v kPlain)) t c P) (same-cur u)
       (subst (λ (x : ℕ). Leads (tyOf (readTy x own) (readTy x false) v (getD tyKinds v kPlain)) t (cursor n names k) P) q h))
-
--- a run of equal entries of a table
-run : {A : Type 0} (l : List A) (from n : ℕ) (x d : A) → take n (drop from l) ≡ replicate n x → (k : ℕ) → from ≤ k → k < from + n → getD l k d ≡ x
-run l from n x d e k lo hi =
-    let i = k - from in
-    let z : from + i ≡ k = omega arith in
-    let h : i < n = omega arith in
-    ap (λ (j : ℕ). getD l j d) (sym z) ∙ sym (getD-drop from l i d) ∙ sym (getD-take n (drop from l) i d h) ∙ ap (λ (m : List _). getD m i d) e ∙ getD-replicate n i x d h
 
 -- WHAT THE PASS MAKES OF ITS PARTS
 

@@ -25,6 +25,7 @@ use Rattle.walk.specs.declared.names.Used.the-variants as U
 use Rattle.walk.specs.Walking.{Moves, Writes, here, Ground, Good, Is, onward, silently, say, Did, Leads, Walks, faultB, okB, Answers, fine, bad, Tried, Tries, Made, made-as, made-not, Uses}
 use Rattle.walk.proofs.Leading.{same-value, same-cur, tries, leads-bind, leads-got, leads-refused, leads-call, leads-tried, is-same}
 use Rattle.walk.proofs.Writing.{here-moved, moved, wrote}
+use Rattle.walk.proofs.Using.{stepped}
 use Rattle.types.specs.declared.Typed.{Typed}
 use Rattle.types.specs.declared.Typed.the-variants.{Fine, Bad}
 use Rattle.types.specs.Typing.{walkOf, faultOf}
@@ -62,10 +63,6 @@ bad-is {t} {m = m} {p} {e} {s} {o} {l} {w} {o′ = o′} {l′} {w′} q k = sub
 abbrev pub afterwards : {B : Type 0} → (B → List ℕ) → Ground → Maybe Spot B × Analyzer Spot → Ground
 afterwards e a v = record { out = a .out ++ okB e (v .0); st = v .1; rest = a .rest }
 
--- the ground after the state u
-abbrev pub unsaid : Ground → Analyzer Spot → Ground
-unsaid a u = record { out = a .out; st = u; rest = a .rest }
-
 -- ONE PART, UNDER ANOTHER CONSTRUCTOR
 
 -- g x is analysed as x is, and what comes of it (h) has the same bytes
@@ -87,7 +84,7 @@ module _ {A A′ B B′ : Type 0} {g : A → A′} {h : B → B′} {p : A → P
           cur = t .did .cur;
           is = is-same (λ _. ap (λ (xs : List ℕ). record { out = a .out ++ xs; st = p x (a .st) .1; rest = a .rest }) (by-bytes (p x (a .st) .0)) ∙ ap (afterwards e′ a) q) (t .did .is);
         };
-        told = subst (λ (v : Maybe Spot B′ × Analyzer Spot). Good (unsaid a (v .1)) → Answers f (v .0)) q (λ z. answers-by h (t .told z));
+        told = subst (λ (v : Maybe Spot B′ × Analyzer Spot). Good (stepped a (v .1)) → Answers f (v .0)) q (λ z. answers-by h (t .told z));
       }
 
   pub tries-by : {t : List ℕ} {m : Reader A} {s : Walk} {o l w : List ℕ} {r : Walk} {f : Option Fault} {o′ l′ w′ : List ℕ} → Tries t m p e s o l w r f o′ l′ w′ → Tries t (m >>= λ x. ret (g x)) p′ e′ s o l w r f o′ l′ w′
@@ -111,10 +108,10 @@ module _ {A N A′ B B′ : Type 0} {g : A → N → A′} {h : N → B → B′
 
   module _ (x : A) (n : N) (a : Ground) where
     good-part : Good (onward p′ (okB e′) (g x n) a) → Good (silently p x a)
-    good-part z = subst (λ (v : Maybe Spot B′ × Analyzer Spot). Good (unsaid a (v .1))) (how .same x n (a .st)) (record { few = z .few; fit = z .fit })
+    good-part z = subst (λ (v : Maybe Spot B′ × Analyzer Spot). Good (stepped a (v .1))) (how .same x n (a .st)) (record { few = z .few; fit = z .fit })
 
     told-whole : {f : Option Fault} → (Good (silently p x a) → Answers f (p x (a .st) .0)) → Good (silently p′ (g x n) a) → Answers f (p′ (g x n) (a .st) .0)
-    told-whole {f} k = subst (λ (v : Maybe Spot B′ × Analyzer Spot). Good (unsaid a (v .1)) → Answers f (v .0)) (sym (how .same x n (a .st))) (λ z. answers-by (h n) (k z))
+    told-whole {f} k = subst (λ (v : Maybe Spot B′ × Analyzer Spot). Good (stepped a (v .1)) → Answers f (v .0)) (sym (how .same x n (a .st))) (λ z. answers-by (h n) (k z))
 
     whole : {xs : List ℕ} → xs ≡ a .out ++ okB e′ (by (h n) (p x (a .st) .0)) → record { out = xs; st = p x (a .st) .1; rest = a .rest } ≡ onward p′ (okB e′) (g x n) a
     whole z = ap (λ (ys : List ℕ). record { out = ys; st = p x (a .st) .1; rest = a .rest }) z ∙ ap (afterwards e′ a) (sym (how .same x n (a .st)))

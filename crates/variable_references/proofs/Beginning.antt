@@ -8,7 +8,7 @@ use native.Mathlib.Decide.{decLt}
 use native.Mathlib.Omega.{arith}
 use lib.Dec.{eqb}
 use lib.ListN.{length, getD, take, drop, length-drop, length-take, List·getD-eq-default}
-use lib.Seq.{getD-take, getD-drop, length-take-le}
+use lib.Seq.{length-take-le}
 use Rattle.penne.specs.Tree.{Spot, Ident, Decl, constant, function, functionHead, structure, import, badDecl}
 use Rattle.penne.specs.Find.{keep}
 use Rattle.penne.specs.Find as F
@@ -33,16 +33,12 @@ use Rattle.label_references.specs.Table as L
 use Rattle.label_references.proofs.Growing.{labels-few, statements-few}
 use Rattle.walk.specs.Walking.{scopesIn, containersIn, functionsIn, Lower, Input, Marks}
 use Rattle.walk.specs.declared.state.Script.{Script}
-use Rattle.walk.proofs.Tables.{marks-kept}
+use Rattle.walk.proofs.Tables.{marks-kept, part-word}
 use Rattle.variable_references.proofs.Wholly.{firstRest}
 use Rattle.variable_references.specs.Whole.{Prepared}
 use Rattle.variable_references.specs.Stages.{Above, Tabled, MainName}
 
 -- THE TABLES AT FIRST
-
--- a word of a part
-part-word : (from n : ℕ) (w : List ℕ) (i : ℕ) → i < n → getD (take n (drop from w)) i 0 ≡ getD w (from + i) 0
-part-word from n w i h = getD-take n (drop from w) i 0 h ∙ getD-drop from w i 0
 
 module _ {s : List ℕ} {l : Layout} {t : LaidOut s l} {w : List ℕ} (p : Prepared t w) where
   -- behind the labels all words are 0

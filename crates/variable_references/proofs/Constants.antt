@@ -1,6 +1,6 @@
 -- A constant: its value and its type, with the constant in in_constexpr_of_constant in between.
 use mathlib.Core.Path.{_≡_, refl, sym, ap, subst, _∙_}
-use mathlib.Core.Bool.{Bool, true, false, _&&_}
+use mathlib.Core.Bool.{true, false}
 use mathlib.Core.List.{List, [], _∷_, _++_, append-assoc}
 use mathlib.Core.Option.{Option, none, some}
 use Prim.Native.Nat.{ℕ, _+_, _≤_, _<_}
@@ -18,6 +18,7 @@ use Rattle.penne.specs.State as S
 use Rattle.penne.specs.Scopes.{Analyzer, withContainment, unlessDuplicate}
 use Rattle.penne.specs.Variables.{declaredAs, analyzeNode, analyzeMaybeType, foundMaybe, inConstexprOf, analyzeConstexpr, analyzeDecl}
 use Rattle.penne.proofs.IdsPass.{still-node}
+use Rattle.penne.proofs.Booleans.{both-true}
 use Rattle.tree.specs.declared.field.Identifier.{Identifier}
 use Rattle.tree.specs.Answers.{cursor, countsOf, identOf}
 use Rattle.answer.specs.Parts.{renumbered, identifierB}
@@ -40,9 +41,6 @@ use Rattle.variable_references.proofs.Fitting.{same-ident, Clear, clear
 use Rattle.variable_references.proofs.Fitting.{Row, row-is}
 use Rattle.variable_references.proofs.Parting.{leads-at}
 use Rattle.variable_references.proofs.Arms.{good-decl}
-
-pub and-both : (a b : Bool) → a ≡ true → b ≡ true → a && b ≡ true
-and-both a b e f = rw (e, f)
 
 -- THE PASS
 
@@ -91,7 +89,7 @@ constant-arm {t} {h} p q {row} {j} {i′} {s} {s₁} e ca rs st c₁ ex c₂ ct 
         cur = z .cur;
         is = is-same (λ good.
             let ga = good-decl (constant (h .flags) p q (own h) x y) a good in
-            let gb : Good b = record { few = ga .0 .few; fit = and-both (a .rest .fit) _ (ga .0 .fit) (ga .1) } in
+            let gb : Good b = record { few = ga .0 .few; fit = both-true (a .rest .fit) _ (ga .0 .fit) (ga .1) } in
             let n = new gb in
             let tells = ca .tells (i .when gb .tables .long) .tells (a .st .containment) (s .script .containers) (i .when gb .tables .containers) (high gb) in
             let is : resolved (own h) (idAt cs (a .rest .containers)) 1 ≡ c = rows gb .is ∙ ap (λ (u : ℕ). (at cs u) .identifier) (sym (n .stands)) in

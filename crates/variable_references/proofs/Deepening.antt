@@ -16,6 +16,7 @@ use Rattle.penne.specs.Read.{readDecl}
 use Rattle.penne.specs.Write.{numB, eachB}
 use Rattle.penne.specs.Find.{first, firstNamed, keep}
 use Rattle.penne.specs.Containers.{Container, Containment, identifierOf, constants, structures, idOf, obtainContainerDepth}
+use Rattle.penne.proofs.Booleans.{some-same, none-some}
 use Rattle.tree.specs.declared.counts.Counts as C
 use Rattle.tree.specs.declared.counts.Passed.{Passed}
 use Rattle.tree.specs.declared.counts.Passed.the-variants as P
@@ -97,12 +98,6 @@ unfolding ofKind ofThat constants structures
 first-kind true name cs = first-of (λ c. c .isStructure) name cs
 first-kind false name cs = first-of (λ c. not (c .isStructure)) name cs
 
-none-some : {X : Type 0} {j : Ident Spot} → _≡_ {A = Option (Ident Spot)} none (some j) → X
-none-some e = let z : _≡_ {A = ℕ} 0 1 = cc in absurd (omega arith)
-
-some-same : {i j : Ident Spot} → some i ≡ some j → i ≡ j
-some-same e = cc
-
 -- it is found before row r
 record Before (t : Container Spot → Bool) (cs : List (Container Spot)) (r : ℕ) (j : Ident Spot) : Type 0 where
   is : firstBy t cs ≡ some j
@@ -113,9 +108,9 @@ record Before (t : Container Spot → Bool) (cs : List (Container Spot)) (r : �
 
 before : (t : Container Spot → Bool) (cs : List (Container Spot)) (r : ℕ) (j : Ident Spot) → firstBy t (take r cs) ≡ some j → Before t cs r j
 unfolding firstBy at
-before t [] zero j e = none-some e
-before t [] (suc r) j e = none-some e
-before t (c ∷ cs) zero j e = none-some e
+before t [] zero j e = none-some _ e
+before t [] (suc r) j e = none-some _ e
+before t (c ∷ cs) zero j e = none-some _ e
 before t (c ∷ cs) (suc r) j e = (elim (t c) as (λ b. t c ≡ b → Before t (c ∷ cs) (suc r) j) [
   | true ↦ λ z. let q : c .identifier ≡ j = some-same (sym (first-yes t c (take r cs) z) ∙ e) in record { is = first-yes t c cs z ∙ ap some q; row = 0; low = omega arith; inside = omega arith; ident-is = q }
   | false ↦ λ z. let o = before t cs r j (sym (first-no t c (take r cs) z) ∙ e) in record { is = first-no t c cs z ∙ o .is; row = suc (o .row); low = omega (arith, o .low); inside = omega (arith, o .inside); ident-is = o .ident-is }
@@ -127,7 +122,7 @@ unfolding firstBy at
 at-row t [] r h e n = absurd (omega arith)
 at-row t (c ∷ cs) zero h e n = first-yes t c cs e
 at-row t (c ∷ cs) (suc r) h e n = (elim (t c) as (λ b. t c ≡ b → firstBy t (c ∷ cs) ≡ some ((at (c ∷ cs) (suc r)) .identifier)) [
-  | true ↦ λ z. none-some (sym n ∙ first-yes t c (take r cs) z)
+  | true ↦ λ z. none-some _ (sym n ∙ first-yes t c (take r cs) z)
   | false ↦ λ z. first-no t c cs z ∙ at-row t cs r (omega arith) e (sym (first-no t c (take r cs) z) ∙ n)
 ]) refl
 
@@ -157,8 +152,8 @@ module _ {k : Script} {kind name : ℕ} {w : List ℕ} where
     }
       where
         go : (cs : List (Container Spot)) (whole : Bool) (x : Option (Ident Spot)) → firstBy (ofThat whole name) (take row cs) ≡ x → none ≡ firstBy (ofThat whole name) cs → RowOf cs whole name row → 0 ≡ rowDepth cs whole name row
-        go cs whole none y q o = none-some (q ∙ at-row (ofThat whole name) cs row (o .low) (row-passes whole name cs row o) y)
-        go cs whole (some j) y q o = none-some (q ∙ before (ofThat whole name) cs row j y .is)
+        go cs whole none y q o = none-some _ (q ∙ at-row (ofThat whole name) cs row (o .low) (row-passes whole name cs row o) y)
+        go cs whole (some j) y q o = none-some _ (q ∙ before (ofThat whole name) cs row j y .is)
 
     module _ {i : ℕ} (z : f ≡ At i) where
       found-row : (long : 16384 ≤ length w) (s : Containment Spot) (h : Holds (k .containers) (containersIn w) s) (whole : Bool) → kind ≡ kindOf whole → some ((at (s .containers) i) .identifier) ≡ firstBy (ofThat whole name) (s .containers)

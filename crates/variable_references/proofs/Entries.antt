@@ -43,6 +43,7 @@ use Rattle.walk.proofs.Writing as Writing
 use Rattle.walk.proofs.Choosing.{leads-unmaybe, leads-ok, leads-err}
 use Rattle.walk.proofs.Identifying.{identified-low}
 use Rattle.types.proofs.Trying.{leads-at, leads-name, leads-unnamed, made-used, made-refused}
+use Rattle.statements.proofs.Declaring.{behind-name}
 use Rattle.variable_references.specs.declared.declaration.Entry.{Entry}
 use Rattle.variable_references.specs.declared.declaration.Entry.the-variants as E
 use Rattle.variable_references.specs.Entering.{Outside, walkOf, Names, named, nameless, Entered, DeclaresEntry, placeAndName, placedB, NamesEntry}
@@ -56,10 +57,6 @@ name-fine k i a {from} {j} e = ap (λ (xs : List ℕ). record { out = a .out ++ 
 name-bad : (k : ℕ) (i : Ident Spot) (a : Ground) (f : Fault) {z : Poison Spot} → declareVariable k i (a .st) .0 ≡ err z → faultB f ≡ poisonB z → say (numB 1 ++ faultB f) (silently (declareVariable k) i a) ≡ onward (declareMaybe k) (maybeB identB) (ok i) a
 unfolding declareMaybe maybeB
 name-bad k i a f e q = ap (λ (xs : List ℕ). record { out = a .out ++ xs; st = declareVariable k i (a .st) .1; rest = a .rest }) (ap (λ (xs : List ℕ). numB 1 ++ xs) q ∙ ap (maybeB identB) (sym e))
-
--- where the walk is behind it
-behind-name : (s : Walk) {s₁ s₂ r : Walk} {n : ℕ} {x : Wrote} → here s₁ ≡ here s → Writes s₁ x s₂ → Moves s₂ n r → cursor n (s .script .names) (countsOf (s .counts)) ≡ here r
-behind-name s {n = n} c wr mv = sym (here-moved mv ∙ ap (λ (y : Walk). cursor n (y .script .names) (countsOf (y .counts))) (wr .is) ∙ ap (λ (y : Cur). cursor n (y .names) (y .counts)) c)
 
 module _ {kind : ℕ} {t : List ℕ} {s : Walk} {r₁ : Identified} (g : Identifies t (s .script .names) (s .at) r₁) {o w : List ℕ} where
   pub declared-unread : {i p : ℕ} {r : Entry} {o′ w′ : List ℕ} → r₁ ≡ I.Not i p → DeclaresEntry kind t s o w r o′ w′

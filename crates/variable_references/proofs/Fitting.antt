@@ -1,7 +1,7 @@
 -- What `fit` says of a declaration that was counted.
-use mathlib.Core.Path.{_≡_, refl, sym, ap, _∙_}
-use mathlib.Core.Bool.{Bool, true, false, _&&_}
-use mathlib.Core.Option.{Option, none, some}
+use mathlib.Core.Path.{_≡_, sym, ap, _∙_}
+use mathlib.Core.Bool.{true, _&&_}
+use mathlib.Core.Option.{none}
 use mathlib.Core.List.{List}
 use Prim.Native.Nat.{ℕ, _<_}
 use native.Mathlib.Omega.{arith}
@@ -13,8 +13,9 @@ use Rattle.penne.specs.Find.{resolved}
 use Rattle.penne.specs.Containers.{Container}
 use Rattle.penne.specs.Scopes.{Analyzer}
 use Rattle.containers.specs.Table.{at, idAt}
-use Rattle.containers.proofs.Lists.{and-true, true-not-false}
+use Rattle.containers.proofs.Lists.{and-true}
 use Rattle.statements.specs.Stating.{isFree}
+use Rattle.statements.proofs.Declaring.{free-none}
 use Rattle.variable_references.specs.Declaring.{sameIdent, clear, fitContainer}
 
 -- the same in all five numbers
@@ -41,13 +42,9 @@ pub record Clear (a : Analyzer Spot) : Type 0 where
   pub free : a .containment .inConstexprOfConstant ≡ none
   pub bare : length (a .variableStack .locals) ≡ 0
 
-free-go : (o : Option (Ident Spot)) → _≡_ {A = Bool} (elim o [ none ↦ true | some c ↦ false ]) true → o ≡ none
-free-go none e = refl
-free-go (some c) e = absurd (true-not-false e refl)
-
 pub clear-is : (a : Analyzer Spot) → clear a ≡ true → Clear a
-unfolding clear isFree
-clear-is a e = let z = and-true (isFree a) _ e in record { free = free-go (a .containment .inConstexprOfConstant) (z .0); bare = eqb-true _ _ (z .1) }
+unfolding clear
+clear-is a e = let z = and-true (isFree a) _ e in record { free = free-none a (z .0); bare = eqb-true _ _ (z .1) }
 
 -- the row was made of the identifier i
 pub record Row (cs : List (Container Spot)) (r : ℕ) (i : Ident Spot) : Type 0 where

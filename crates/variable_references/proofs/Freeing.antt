@@ -12,7 +12,7 @@ use Rattle.penne.specs.Scopes as Q
 use Rattle.penne.specs.Variables as V′
 use Rattle.walk.proofs.Tables.{found-whose}
 use Rattle.statements.specs.Stating.{isFree}
-use Rattle.statements.proofs.Free.{Within, free-same, within-maybe, within-declare, within-body}
+use Rattle.statements.proofs.Free.{Within, free-same, within-maybe, within-declare, within-body, within-then}
 
 -- found_container does not change in whose value the walk is
 abbrev whose : Containment Spot → Option (Ident Spot)
@@ -40,9 +40,6 @@ whose-found c m (pointer t) s = refl
 whose-found c m (view t) s = refl
 
 -- THE PARTS OF A DECLARATION
-
-within-then : {a b c : Analyzer Spot} → Within a b → Within b c → Within a c
-within-then f g = record { is = g .is ∙ f .is }
 
 within-found : (c : Ident Spot) (m : Option (Ident Spot)) (t : Maybe Spot (Ty Spot)) (a : Analyzer Spot) → Within a (V′.foundMaybe c m t a .1)
 unfolding V′.foundMaybe Q.onContainment Q.withContainment S.ret

@@ -17,6 +17,7 @@ use Rattle.penne.specs.State as S
 use Rattle.penne.specs.Scopes.{Analyzer, withStack, inNewScope, unlessDuplicate, useFunction, useFunctionAt}
 use Rattle.penne.specs.Variables.{declaredAs, inTurn, analyzeParam, analyzeParamsAndBody, analyzeBody, analyzeMaybeType, analyzeDecl, functionOf, functionHeadOf, withMain, isMain}
 use Rattle.penne.proofs.IdsPass.{opened, grown-params, grown-param, grown-function}
+use Rattle.penne.proofs.Booleans.{both-true}
 use Rattle.tree.specs.declared.field.Identifier.{Identifier}
 use Rattle.answer.specs.Parts.{renumbered}
 use Rattle.containers.specs.declared.containers.Declared.{Declared}
@@ -36,7 +37,7 @@ use Rattle.variable_references.specs.Entering.{Outside, Under, paramsWal
 use Rattle.variable_references.proofs.Fitting.{same-ident, clear-is}
 use Rattle.variable_references.proofs.Parting.{leads-at}
 use Rattle.variable_references.proofs.Arms.{good-decl}
-use Rattle.variable_references.proofs.Constants.{and-both, own-bytes}
+use Rattle.variable_references.proofs.Constants.{own-bytes}
 use Rattle.variable_references.proofs.Staying.{stays-param}
 use Rattle.variable_references.proofs.Params.{leads-under}
 
@@ -156,7 +157,7 @@ head-arm {t} {h} p q {row} {j} {i′} {s} e fa rs st op pa cl ty = record {
       let i₄ = cl .is {b = b} i i₃ (record { constants = gr .stack .constants; more = gr .stack .more; locals = gr .stack .locals }) (λ z. record { few = omega (arith, z .few, gr .takes .lower); fit = z .fit }) in
       leads-at (cl .cur) (leads-call _ ty inp i₄ λ y g₂ i₅. leads-end (functionHead (h .flags) p q (own h) ps y) refl i₅ λ good.
       let ga = good-decl (functionHead (h .flags) p q (own h) ps y) a good in
-      let gb : Good b = record { few = ga .0 .few; fit = and-both (a .rest .fit) _ (ga .0 .fit) (ga .1) } in
+      let gb : Good b = record { few = ga .0 .few; fit = both-true (a .rest .fit) _ (ga .0 .fit) (ga .1) } in
       let n = new gb in
       let tells = fa .tells (i .when gb .tables .long) .tells fs (s .script .functions) (i .when gb .tables .functions) (high gb) in
       let id : j .id ≡ rowId a = tells .id ∙ ap (λ (u : ℕ). (functionAt fs u) .id) (n .stands) in
@@ -191,7 +192,7 @@ function-arm {t} {h} p q {row} {fl} {j} {i′} {s} low less e fa mf rs st op pa 
       leads-at (cl .cur) (leads-call _ ty inp i₅ λ y g₂ i₆. leads-end (function (h .flags) p q (own h) ps x y) refl i₆ λ good.
       let ga = good-decl (function (h .flags) p q (own h) ps x y) a good in
       let gc = and-true (clear (a .st)) _ (ga .1) in
-      let gb : Good b = record { few = ga .0 .few; fit = and-both (a .rest .fit) _ (ga .0 .fit) (and-both (clear (a .st)) _ (gc .0) (and-true (fitFunction fs (a .rest .functions) (own h)) _ (gc .1) .0)) } in
+      let gb : Good b = record { few = ga .0 .few; fit = both-true (a .rest .fit) _ (ga .0 .fit) (both-true (clear (a .st)) _ (gc .0) (and-true (fitFunction fs (a .rest .functions) (own h)) _ (gc .1) .0)) } in
       let n = new gb in
       let tells = fa .tells (i .when gb .tables .long) .tells fs (s .script .functions) (i .when gb .tables .functions) (high gb) in
       let id : j .id ≡ rowId a = tells .id ∙ ap (λ (u : ℕ). (functionAt fs u) .id) (n .stands) in

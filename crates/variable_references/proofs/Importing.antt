@@ -9,13 +9,14 @@ use Rattle.penne.specs.Write.{numB, placeB, bytesB, declB}
 use Rattle.tree.specs.declared.number.Read.{Read}
 use Rattle.tree.specs.declared.number.Read.the-variants.{Number, Refused}
 use Rattle.tree.specs.Answers.{cursor, countsOf, numberOf, endOf, Gives, Skips}
+use Rattle.tree.proofs.Scripts.{forget-got}
 use Rattle.answer.specs.declared.wrote.Wrote.{Wrote}
 use Rattle.answer.specs.Out.{Put}
 use Rattle.answer.specs.Parts.{renumbered, part}
 use Rattle.answer.proofs.Chain.{_▸_}
 use Rattle.walk.specs.declared.state.Walk.{Walk}
 use Rattle.walk.specs.Walking.{here, Moves, Writes, Ground, say, Did, Leads, Walks}
-use Rattle.walk.proofs.Leading.{never, same-value, same-cur, bind-got, end-go, unend-go, walks, leads-bind, leads-place, leads-unplace, leads-got, is-same}
+use Rattle.walk.proofs.Leading.{never, same-value, same-cur, bind-got, unend-go, walks, leads-bind, leads-place, leads-unplace, leads-got, is-same}
 use Rattle.walk.proofs.Writing.{here-moved, moved, wrote}
 use Rattle.expressions.proofs.ByKind.{bytes-is}
 use Rattle.variable_references.proofs.Parting.{leads-at}
@@ -48,7 +49,7 @@ module _ {t : List ℕ} (s : Walk) {m₁ : Read} (g₁ : Gives num t (s .at) m�
     module _ {v b : ℕ} (e₂ : m₂ ≡ Number v b) {m₃ : Read} (g₃ : Gives num t b m₃) where
       text-end : {bs : List ℕ} {c : Cur} → bytes t (here s) ≡ got bs c → cursor b (s .script .names) (countsOf (s .counts)) ≡ c
       unfolding endOf
-      text-end q = same-cur (sym (end-go _ (sym (ap (endOf (s .script .names) (countsOf (s .counts))) e₂) ∙ g₂ .ends (s .script .names) .is (countsOf (s .counts))) .1) ∙ raw-is q)
+      text-end q = same-cur (sym (forget-got _ (sym (ap (endOf (s .script .names) (countsOf (s .counts))) e₂) ∙ g₂ .ends (s .script .names) .is (countsOf (s .counts))) .1) ∙ raw-is q)
 
       pub import-placeless : {i p : ℕ} {r : Walk} {o l w o′ : List ℕ} → m₃ ≡ Refused i p → Walks t readImport (λ d a. say (declB d) a) s o l w r o′ l w
       unfolding readImport

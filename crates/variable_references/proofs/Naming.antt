@@ -16,6 +16,7 @@ use Rattle.tree.specs.declared.number.Read.the-variants.{Number, Refused}
 use Rattle.tree.specs.declared.script.Layout.{Layout}
 use Rattle.tree.specs.Answers.{cursor, numberOf, Gives}
 use Rattle.tree.specs.Script.{LaidOut, start}
+use Rattle.tree.proofs.Names.{refused-not}
 use Rattle.answer.specs.declared.wrote.Wrote.{Wrote}
 use Rattle.answer.specs.declared.wrote.Wrote.the-variants.{Bytes}
 use Rattle.answer.specs.Out.{Put}
@@ -100,9 +101,6 @@ unfolding eachB
 each-snoc [] y = append-nil (bytesB y)
 each-snoc (x ∷ xs) y = ap (λ (l : List ℕ). bytesB x ++ l) (each-snoc xs y) ∙ sym (append-assoc (bytesB x) (eachB bytesB xs) (bytesB y))
 
-pub unread-number : {X : Type 0} {i p x y : ℕ} → Refused i p ≡ Number x y → X
-unread-number e = let k : _≡_ {A = ℕ} 0 1 = cc in absurd (omega arith)
-
 pub same-table : {s : List ℕ} {n at₀ : ℕ} → num s (cursor 0 0 nothing) ≡ got n (cursor at₀ 0 nothing) → {l : Layout} (t : LaidOut s l) {X : Type 0} → (readNames n [] s (cursor at₀ 0 nothing) ≡ got (t .table) (t .behind) → X) → X
 same-table {s} {n} f t k =
     let q = sym f ∙ t .counted in
@@ -117,7 +115,7 @@ module _ {s o : List ℕ} {v : Wrote} {n at₀ rest at : ℕ} {w : Wrote} {o′ 
   next-told f i t k = same-table f t λ q. let l = c .on i q in let m = next-name l in k (l .before) m (told-one g m)
 
   pub copying-unread : {i p : ℕ} {y : Wrote} {e₀ a : List ℕ} → num s (cursor 0 0 nothing) ≡ got n (cursor at₀ 0 nothing) → r ≡ Refused i p → SaysNames s e₀ y a
-  copying-unread f e = record { does = λ i t. next-told f i t λ b m q. unread-number (sym e ∙ q) }
+  copying-unread f e = record { does = λ i t. next-told f i t λ b m q. refused-not (sym e ∙ q) }
 
   module _ {m from : ℕ} (e : r ≡ Number m from) where
     pub copying-large : {y : Wrote} {e₀ a : List ℕ} → num s (cursor 0 0 nothing) ≡ got n (cursor at₀ 0 nothing) → 64 < m → SaysNames s e₀ y a

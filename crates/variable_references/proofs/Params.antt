@@ -6,7 +6,7 @@ use mathlib.Core.Option.{Option, none, some}
 use Prim.Native.Nat.{ℕ, zero, suc, _-_, _≤_, _<_}
 use native.Mathlib.Omega.{arith}
 use lib.ListN.{length}
-use Rattle.penne.specs.Reader.{Cur, Got, got, refused, Reader, _>>=_, ret, num, many, listed, anEntry, counting}
+use Rattle.penne.specs.Reader.{Cur, got, Reader, _>>=_, ret, num, many, listed, anEntry, counting}
 use Rattle.penne.specs.Tree.{Spot, Ident, Poison, Maybe, ok, err, Ty, Param}
 use Rattle.penne.specs.Read.{place, ident, maybe, readTy, readParam, poisonFields}
 use Rattle.penne.specs.Write.{numB, placeB, identB, tyB, maybeB, eachB, listB, paramB}
@@ -30,7 +30,7 @@ use Rattle.walk.specs.declared.edges.Holding.the-variants as H
 use Rattle.walk.specs.Walking.{Moves, Writes, here, Ground, Good, Is, onward, say, Did, Leads, Input, Walks}
 use Rattle.walk.specs.Calls.{the-member, Stays, stays, goes, heldBy, Decides}
 use Rattle.walk.proofs.Loops.{Kept, kept-start, kept-more}
-use Rattle.walk.proofs.Leading.{leads-bind, leads-read, leads-unread, leads-call, leads-end, leads-got, is-same}
+use Rattle.walk.proofs.Leading.{leads-bind, leads-read, leads-unread, leads-call, leads-end, leads-got, is-same, bind-is}
 use Rattle.walk.proofs.Writing.{here-moved, moved, wrote}
 use Rattle.types.specs.Typing.{analyzeContained, Contains}
 use Rattle.types.proofs.Trying.{leads-at}
@@ -40,13 +40,6 @@ use Rattle.variable_references.specs.Entering.{Outside, InStructure, Und
 use Rattle.variable_references.proofs.Staying.{inside-name, outside-param, inside-member}
 
 -- PLACE AND NAME, AND THEN THE REST
-
-abbrev after : {A C : Type 0} → (C → Reader A) → List ℕ → Got C → Got A
-after f t q = elim q [ got y next ↦ f y t next | refused i p ↦ refused i p ]
-
-bind-is : {A C : Type 0} (m : Reader C) (f : C → Reader A) (t : List ℕ) (c : Cur) {y : C} {e : Cur} → m t c ≡ got y e → (m >>= f) t c ≡ f y t e
-unfolding _>>=_
-bind-is m f t c h = ap (after f t) h
 
 place-and-name : (t : List ℕ) (c : Cur) {p : Spot} {d : Cur} {i : Maybe Spot (Ident Spot)} {e : Cur} → counting (λ _. anEntry) place t c ≡ got p d → maybe ident t d ≡ got i e → placeAndName t c ≡ got (p, i) e
 unfolding placeAndName ret

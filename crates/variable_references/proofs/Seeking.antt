@@ -11,16 +11,17 @@ use borrow.Author.Tests.{ltb-true, ltb-false, eq-eqb, ne-eqb}
 use Rattle.penne.specs.Reader.{Cur, got, Reader, _>>=_, ret, such, num, raw, nothing}
 use Rattle.penne.specs.Read.{sameBytes, amongNames, readNames}
 use Rattle.penne.specs.Variables.{isMain}
+use Rattle.penne.proofs.Booleans.{true-false}
 use Rattle.tree.specs.declared.number.Read.{Read}
 use Rattle.tree.specs.declared.number.Read.the-variants.{Number, Refused}
 use Rattle.tree.specs.declared.script.Layout.{Layout}
 use Rattle.tree.specs.Answers.{cursor, numberOf, Gives}
 use Rattle.tree.specs.Script.{LaidOut}
-use Rattle.tree.proofs.Names.{true-not, same-eq}
+use Rattle.tree.proofs.Names.{same-eq, refused-not}
 use Rattle.walk.specs.Walking.{Input}
 use Rattle.walk.proofs.Leading.{never, same-value, bind-got, such-got}
 use Rattle.variable_references.specs.Stages.{MainName}
-use Rattle.variable_references.proofs.Naming.{OneName, one-name, told-one, unread-number, same-table}
+use Rattle.variable_references.proofs.Naming.{OneName, one-name, told-one, same-table}
 
 -- "the four bytes of `main`"
 abbrev main : List ℕ
@@ -40,7 +41,7 @@ only-snoc xs y j o e i h = go (ltb i (length xs)) refl
 
 among-more : (xs : List (List ℕ)) (y : List ℕ) → amongNames main xs ≡ true → amongNames main (xs ++ (y ∷ [])) ≡ true
 unfolding amongNames
-among-more [] y e = true-not (sym e)
+among-more [] y e = true-false (sym e)
 among-more (x ∷ xs) y e = (elim (sameBytes main x) as (λ t. (t || amongNames main xs) ≡ true → (t || amongNames main (xs ++ (y ∷ []))) ≡ true) [
   | true ↦ λ h. refl
   | false ↦ λ h. among-more xs y h
@@ -59,7 +60,7 @@ not-again : (before : List (List ℕ)) (y : List ℕ) → amongNames main before
 not-again before y f e = go (sameBytes y main) refl
   where
     go : (b : Bool) → sameBytes y main ≡ b → b ≡ false
-    go true z = true-not (sym e ∙ ap (λ (n : List ℕ). not (amongNames n before)) (same-eq y main z) ∙ ap not f)
+    go true z = true-false (sym e ∙ ap (λ (n : List ℕ). not (amongNames n before)) (same-eq y main z) ∙ ap not f)
     go false z = refl
 
 -- where main is one of the names before, it stays the only one
@@ -103,7 +104,7 @@ module _ {s : List ℕ} {n at₀ k at : ℕ} (c : Seeking s n at₀ k at) {r : R
     next-told t h = same-table f t λ q. let l = c .on q in let m = next l in h (l .before) m (told-one g m)
 
     pub seeking-unread : {i p v : ℕ} → r ≡ Refused i p → MainName s v
-    seeking-unread e = record { is = λ i t j h. next-told t λ b m q. unread-number (sym e ∙ q) }
+    seeking-unread e = record { is = λ i t j h. next-told t λ b m q. refused-not (sym e ∙ q) }
 
     module _ {m from : ℕ} (e : r ≡ Number m from) where
       pub seeking-large : {v : ℕ} → 64 < m → MainName s v

@@ -6,12 +6,12 @@ use Prim.Native.Nat.{ℕ, zero, suc, _+_, _≤_}
 use native.Mathlib.Omega.{arith}
 use lib.ListN.{getD}
 use Rattle.penne.specs.Tree.{Spot, Ident, Maybe, ok, err, expr, stmt, StmSort, Stm, nil′, cons′, declaration, assignment, methodCall, loop, goto, label, ifElse, block, badStmt, noElse, orElse, Body, Decl, constant, function, functionHead, structure, import, badDecl}
-use Rattle.penne.specs.Reader.{Counts, Cur, Got, got, refused, Reader, _>>=_, ret, num, below, bytes, many, listed, plus, counting, tooDeep, nothing, aContainer, aFunction, anEntry, aStatement}
+use Rattle.penne.specs.Reader.{Counts, Cur, got, Reader, _>>=_, ret, num, below, bytes, many, listed, plus, counting, tooDeep, nothing, aContainer, aFunction, anEntry, aStatement}
 use Rattle.penne.specs.Read.{place, ident, readPoison, either, maybe, option, readTy, read, toStms, StmtKind, kDeclaration, kAssignment, kMethodCall, kLoop, kGoto, kLabel, kIf, kBlock, kBadStmt, stmtHead, stmtCounts, stmtOf, readStmt, elseOf, readDeclaration, readAssignment, readMethodCall, readJump, readIf, readBlock, readBody, readParam, DeclKind, kConstant, kFunction, kFunctionHead, kStructure, kImport, kBadDecl, declHead, declCounts, declOf, readDecl, readConstant, readFunction, readFunctionHead, readStructure, readImport}
 use Rattle.label_references.specs.Marked.{marked, markedBody, markedDecl, rest}
-use Rattle.label_references.proofs.Leading.{Leads, leads-none, leads-ret, leads-bind}
+use Rattle.label_references.proofs.Leading.{Leads, leads-ret, leads-bind}
 use Rattle.label_references.proofs.Keeping.{Keeps, keeps-ret, keeps-bind, keeps-num, keeps-below, keeps-place, keeps-ident, keeps-listed, keeps-poison, keeps-maybe, keeps-option, keeps-ty, keeps-read, keeps-bytes}
-use Rattle.label_references.proofs.Growing.{Counts-on, counting-leads}
+use Rattle.label_references.proofs.Growing.{Counts-on, counting-leads, deep-go}
 use Rattle.variable_references.specs.Declaring.{rowsOf}
 
 -- HOW MANY STATEMENTS
@@ -184,10 +184,6 @@ keeps-head = keeps-bind (keeps-below 9) λ n. keeps-ret _
 sizes-stmt : (d : ℕ) → Sizes 0 0 0 (readStmt d) size zeros zeros
 unfolding readStmt tooDeep
 sizes-stmt zero = record { at = λ s c d x. deep-go (d .at) (stmtHead s d) }
-  where
-    deep-go : (p : ℕ) (q : Got StmtKind) {Q : Stm Spot stmt → Cur → Type 0} → Leads {A = Stm Spot stmt} (elim q [ got a next ↦ refused 7 p | refused i j ↦ refused i j ]) Q
-    deep-go p (got a e) = leads-none _ refl
-    deep-go p (refused i j) = leads-none _ refl
 sizes-stmt (suc d) = sizes-counting stmtCounts keeps-head λ k. sizes-kind d (sizes-stmt d) k
 
 -- DECLARATIONS

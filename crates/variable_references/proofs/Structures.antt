@@ -16,6 +16,7 @@ use Rattle.penne.specs.State as S
 use Rattle.penne.specs.Scopes.{Analyzer, withStack, inNewScope, unlessDuplicate}
 use Rattle.penne.specs.Variables.{declaredAs, inTurn, analyzeMember, analyzeMaybeType, analyzeDecl}
 use Rattle.penne.proofs.IdsPass.{opened, grown-params, grown-member}
+use Rattle.penne.proofs.Booleans.{both-true}
 use Rattle.tree.specs.declared.field.Identifier.{Identifier}
 use Rattle.answer.specs.Parts.{renumbered}
 use Rattle.containers.specs.declared.containers.Declared.{Declared}
@@ -34,7 +35,7 @@ use Rattle.variable_references.specs.Entering.{InStructure, Under, membe
 use Rattle.variable_references.proofs.Fitting.{clear-is, Row, row-is}
 use Rattle.variable_references.proofs.Parting.{leads-at}
 use Rattle.variable_references.proofs.Arms.{good-decl}
-use Rattle.variable_references.proofs.Constants.{and-both, own-bytes}
+use Rattle.variable_references.proofs.Constants.{own-bytes}
 use Rattle.variable_references.proofs.Params.{leads-under}
 
 -- THE PASS
@@ -76,7 +77,7 @@ structure-arm {t} {h} p {row} {j} {i′} {s} {l = l} e ca rs st op me cl ty = re
       let i₄ = cl .is {b = b} i i₃ (record { constants = gr .stack .constants; more = gr .stack .more; locals = gr .stack .locals }) (λ z. record { few = omega (arith, z .few, gr .takes .lower); fit = z .fit }) in
       leads-at (cl .cur) (leads-call _ ty inp i₄ λ y g₂ i₅. leads-end (structure (h .flags) p (own h) ms y) refl i₅ λ good.
       let ga = good-decl (structure (h .flags) p (own h) ms y) a good in
-      let gb : Good b = record { few = ga .0 .few; fit = and-both (a .rest .fit) _ (ga .0 .fit) (ga .1) } in
+      let gb : Good b = record { few = ga .0 .few; fit = both-true (a .rest .fit) _ (ga .0 .fit) (ga .1) } in
       let n = new gb in
       let tells = ca .tells (i .when gb .tables .long) .tells (a .st .containment) (s .script .containers) (i .when gb .tables .containers) (high gb) in
       let is : resolved (own h) (idAt cs (a .rest .containers)) 1 ≡ c = rows gb .is ∙ ap (λ (u : ℕ). (at cs u) .identifier) (sym (n .stands)) in

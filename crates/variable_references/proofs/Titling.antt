@@ -11,12 +11,12 @@ use Rattle.penne.specs.Read.{declOf, declKinds, kBadDecl, declCounts, declHead,
 use Rattle.penne.specs.Write.{declB}
 use Rattle.penne.specs.State as S
 use Rattle.penne.specs.Variables.{analyzeDecl}
+use Rattle.penne.proofs.Booleans.{and-true}
 use Rattle.tree.specs.declared.number.Read.{Read}
 use Rattle.tree.specs.declared.number.Read.the-variants.{Number, Refused}
 use Rattle.tree.specs.declared.counts.Passed.the-variants as Q
 use Rattle.tree.specs.Answers.{cursor, countsOf, passedOf, passedBy, Gives, Passes}
 use Rattle.tree.proofs.Statements as T
-use Rattle.containers.proofs.Lists.{and-yes}
 use Rattle.label_references.specs.Marked.{markedDecl}
 use Rattle.walk.specs.declared.state.Walk.{Walk}
 use Rattle.walk.specs.Walking.{here, Moves, Rest, Ground, say, sayPoison, Leads, Walks}
@@ -45,7 +45,7 @@ uncounted m =
     let make : Bool → ℕ → ℕ → Rest = λ b x y. record { words = m .words; labels = m .labels; fit = b; containers = x; functions = y; names = m .names; room = m .room; slots = m .slots; script = m .script } in
     let e₁ : m .containers ≡ m .containers + 0 = omega arith in
     let e₂ : m .functions ≡ m .functions + 0 = omega arith in
-    ap (λ (b : Bool). make b (m .containers) (m .functions)) (sym (and-yes (m .fit))) ∙ ap (λ (x : ℕ). make (m .fit && true) x (m .functions)) e₁ ∙ ap (λ (y : ℕ). make (m .fit && true) (m .containers + 0) y) e₂
+    ap (λ (b : Bool). make b (m .containers) (m .functions)) (sym (and-true (m .fit))) ∙ ap (λ (x : ℕ). make (m .fit && true) x (m .functions)) e₁ ∙ ap (λ (y : ℕ). make (m .fit && true) (m .containers + 0) y) e₂
 
 import-walk : (b : List ℕ) (p : Spot) (a : Ground) → say (declB (import b p)) a ≡ declWalk (import b p) a
 unfolding declWalk behind rowsOf fitDecl markedDecl predeclaredBy analyzeDecl S.ret counting

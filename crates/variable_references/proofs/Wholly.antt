@@ -1,7 +1,7 @@
 -- From the ground that the second pass begins with, the walk over the declarations does what the definition's analysis of the program does.
 use Prim.Native.Nat.{ℕ, zero, suc, _+_, _≤_, _<_}
 use mathlib.Core.Path.{_≡_, refl, sym, ap, subst, _∙_}
-use mathlib.Core.Bool.{Bool, true, false, _&&_}
+use mathlib.Core.Bool.{Bool, true, false}
 use mathlib.Core.List.{List, [], _∷_, _++_, map, append-assoc, append-nil}
 use mathlib.Core.Option.{Option, none, some}
 use native.Mathlib.Omega.{arith}
@@ -24,6 +24,7 @@ use Rattle.penne.specs.Read.{readTree}
 use Rattle.penne.specs.Ids.{idsDecls}
 use Rattle.penne.proofs.IdsRead.{declared-bytes}
 use Rattle.penne.proofs.IdsWhole.{ids-all}
+use Rattle.penne.proofs.Booleans.{both-true}
 use Rattle.tree.specs.declared.script.Layout.{Layout}
 use Rattle.tree.specs.Answers.{cursor}
 use Rattle.tree.specs.Script.{LaidOut, start}
@@ -236,9 +237,6 @@ pub record Walked (ds ds₁ : List (Decl Spot)) (u : Analyzer Spot) (a : Ground)
   pub st : declsWalk ds a .st ≡ inTurn (analyzeDecl (a .rest .names)) (inTurn predeclare ds₁ u .0) (a .st) .1
   pub fit : declsWalk ds a .rest .fit ≡ true
 
-and-both : {b c : Bool} → b ≡ true → c ≡ true → b && c ≡ true
-and-both {b} {c} e f = rw (e, f)
-
 still-clear : (names : List (List ℕ)) (d : Decl Spot) (a : Analyzer Spot) → clear a ≡ true → clear (analyzeDecl names d a .1) ≡ true
 unfolding clear
 still-clear names d a c =
@@ -267,7 +265,7 @@ walked (d ∷ ds) u a r f =
       row-is = o .row-is;
       place-is = o .place-is;
       cleared = still-clear names d₂ (a .st) (r .cleared);
-      fit = and-both (r .fit) (o .fits);
+      fit = both-true _ _ (r .fit) (o .fits);
     }) f₂ in
     record {
       out = w .out ∙ append-assoc (a .out) _ _ ∙ ap (λ (x : Decl Spot). a .out ++ (declB (analyzeDecl names x (a .st) .0) ++ eachB declB (inTurn (analyzeDecl names) (inTurn predeclare ds₁ u₁ .0) (analyzeDecl names x (a .st) .1) .0))) (o .by);

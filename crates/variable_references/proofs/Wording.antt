@@ -1,7 +1,7 @@
 -- The words that the label pass leaves fit the declarations whose statements they are of.
 use mathlib.Core.Path.{_≡_, refl, sym, ap, subst, _∙_}
 use mathlib.Core.Bool.{Bool, true, false, _&&_}
-use mathlib.Core.List.{List, [], _∷_, _++_, append-nil}
+use mathlib.Core.List.{List, [], _∷_, _++_, append-nil, append-assoc}
 use Prim.Native.Nat.{ℕ, _+_, _≤_}
 use native.Mathlib.Omega.{arith}
 use lib.ListN.{length}
@@ -16,7 +16,7 @@ use Rattle.label_references.specs.Marked.{markedBody, markedDecl, Known, none-k
 use Rattle.label_references.proofs.Marking.{marks}
 use Rattle.label_references.proofs.Growing.{labels-few}
 use Rattle.statements.specs.Stating.{fitsBody}
-use Rattle.statements.proofs.Fitting.{Sits, Split, split, numbered-along, assoc, fits-body, sits-all}
+use Rattle.statements.proofs.Fitting.{Sits, Split, split, numbered-along, fits-body, sits-all}
 
 -- the words of a declaration's statements fit them
 unfoldable pub fitsWords : List (Ident Spot) → Decl Spot → List ℕ → Bool
@@ -60,7 +60,7 @@ fits-decls {all} (d ∷ ds) l {n} a k os =
     let l₁ = labelsDecl d l .1 in
     let r = fits-decls ds l₁ (subst (λ (i : ℕ). Along (Sits all) i (labelsInDecls ds) n) (m .next) (s .right)) (m .known) os in
     let v = outcomesDecls ds l₁ ++ os in
-    ap (λ (x : List ℕ). fitsAll all (d ∷ ds) x) (assoc (bodyOutcomes (bodyOf d) l) (outcomesDecls ds l₁) os) ∙ rw (m .fits v, m .words v) r
+    ap (λ (x : List ℕ). fitsAll all (d ∷ ds) x) (append-assoc (bodyOutcomes (bodyOf d) l) (outcomesDecls ds l₁) os) ∙ rw (m .fits v, m .words v) r
 
 -- of a tree that is read
 pub fits-all : {s : List ℕ} {l : Layout} (t : LaidOut s l) → fitsAll (labelsInDecls (t .decls)) (t .decls) (outcomesDecls (t .decls) (fresh 1)) ≡ true

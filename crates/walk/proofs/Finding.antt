@@ -3,13 +3,12 @@ use mathlib.Core.Path.{_≡_, refl, sym, ap, subst, _∙_}
 use mathlib.Core.Bool.{Bool, true, false, _&&_, not}
 use mathlib.Core.List.{List}
 use mathlib.Core.Option.{Option, some}
-use Prim.Native.Nat.{ℕ, zero, suc, _+_, _-_, _≤_, _<_}
+use Prim.Native.Nat.{ℕ, zero, suc, _-_, _≤_, _<_}
 use native.Mathlib.Omega.{arith}
 use lib.Dec.{eqb}
-use lib.ListN.{getD, take, drop, replicate, getD-replicate}
-use lib.Seq.{getD-take, getD-drop}
+use lib.ListN.{getD}
 use borrow.Author.Tests.{eqb-true, eqb-false}
-use Rattle.penne.specs.Reader.{Counts, Cur, Got, got, refused, Reader, _>>=_, ret, such, num, below}
+use Rattle.penne.specs.Reader.{Counts, Cur, got, Reader, _>>=_, ret, such, num, below}
 use Rattle.penne.specs.State as S
 use Rattle.penne.specs.State.{_>>?_}
 use Rattle.penne.specs.Tree.{Spot, Ident, Poison, Maybe, ok, err, Ty, plain, array, arrayWithNamedLength, arraylike, struct, word, unresolved, nameless, pointer, view}
@@ -25,6 +24,9 @@ use Rattle.tree.specs.declared.field.Identified.the-variants as I
 use Rattle.tree.specs.declared.counts.Counts as K
 use Rattle.tree.proofs.Fields.{getD-past}
 use Rattle.tree.specs.Answers.{cursor, numberOf, endOf, identifiedOf, Gives, Ends, Identifies}
+use Rattle.tree.proofs.Scripts.{forget-got}
+use Rattle.tree.proofs.Types.{run}
+use Rattle.tree.proofs.Numbers.{such-got as such-is}
 use Rattle.containers.specs.declared.containers.Found.{Found}
 use Rattle.containers.specs.declared.containers.Found.the-variants.{At, Nothing}
 use Rattle.containers.specs.Table.{at, idAt, kindOf}
@@ -37,7 +39,7 @@ use Rattle.walk.specs.declared.edges.Edge.{Edge}
 use Rattle.walk.specs.declared.edges.Edge.the-variants as E
 use Rattle.walk.specs.Walking.{Tables, Lower, Leads}
 use Rattle.walk.specs.Calls.{FindsIn, Member, Edged, fine, bad, EdgeTo, Handed, Resolves, Settles, as-plain, in-array, in-named-length, in-arraylike, as-struct, as-word, as-unresolved, as-nameless, as-pointer, as-view, FoundNamed, FoundLength, FoundIn}
-use Rattle.walk.proofs.Leading.{never, same-value, same-cur, bind-got, such-got, end-go, unend-go, leads-bind, leads-got, leads-such, leads-deep}
+use Rattle.walk.proofs.Leading.{never, same-value, same-cur, bind-got, such-got, unend-go, leads-bind, leads-got, leads-such, leads-deep, bind-is}
 use Rattle.walk.proofs.Edging.{edge-fine, edge-bad}
 use Rattle.walk.proofs.Settling.{SameNames, found-type-names, names-row, resolves-kept, settles-analysed}
 
@@ -148,7 +150,7 @@ module _ {t : List ℕ} {m : Reader (Ty Spot)} {k : Script} {h : Holder} {from :
         let s₁ : Containment Spot = foundContainer c o x′ (a .containment) .1 in
         let kept : SameNames (a .containment) s₁ = found-type-names c o x′ (a .containment) in
         let count = b .containers .counted in
-        let end = end-go (s t (cursor from (k .names) q)) (sym (ap (endOf (k .names) q) z) ∙ g .is q) in
+        let end = forget-got (s t (cursor from (k .names) q)) (sym (ap (endOf (k .names) q) z) ∙ g .is q) in
         let here : b₁ ≡ cursor n₁ (k .names) q = same-cur (sym (own .is _ x b₁ u) ∙ end .1) in
         let v′ : ident t (cursor n₁ (k .names) q) ≡ got i d = ap (ident t) (sym here) ∙ v in
         let v₂ = to .does (v₁ .tables) low mem c (names-row kept (h .row) (omega arith) ∙ y) false refl q d i i′ v′ (resolves-kept kept res) in
@@ -159,23 +161,12 @@ module _ {t : List ℕ} {m : Reader (Ty Spot)} {k : Script} {h : Holder} {from :
 
 -- A CONSTANT'S OR MEMBER'S OWN TYPE IS A TYPE
 
-bind-is : {A C : Type 0} (m : Reader C) (f : C → Reader A) (t : List ℕ) (c : Cur) {y : C} {e : Cur} {x : A} {d : Cur} → m t c ≡ got y e → f y t e ≡ got x d → (m >>= f) t c ≡ got x d
-unfolding _>>=_
-bind-is {A} {C} m f t c {x = x} {d} h g = subst (λ (q : Got C). _≡_ {A = Got A} (elim q [ got a next ↦ f a t next | refused i p ↦ refused i p ]) (got x d)) (sym h) g
-
-such-is : {A : Type 0} (m : Reader A) (test : A → Cur → Bool) (n : ℕ) (t : List ℕ) (c : Cur) {y : A} {e : Cur} → m t c ≡ got y e → test y e ≡ true → such m test n t c ≡ got y e
-unfolding such
-such-is {A} m test n t c {y} {e} h z =
-    let passed : Bool → Got A = λ b. elim b [ true ↦ got y e | false ↦ refused n (c .at) ] in
-    let outer : Got A → Got A = λ q. elim q [ got a next ↦ elim (test a next) [ true ↦ got a next | false ↦ refused n (c .at) ] | refused k p ↦ refused k p ] in
-    ap outer h ∙ ap passed z
-
 wider-of : {s : List ℕ} {t t′ : Reader (Ty Spot)} (u : Reader (Ty Spot)) (n : ℕ) (k : TyKind) → Wider s t t′ → Wider s (tyOf t u n k) (tyOf t′ u n k)
 unfolding tyOf
 wider-of u n kPlain w = record { is = λ c x d h. h }
-wider-of {s} {t} {t′} u n kArray w = record { is = λ c x d h. let b = bind-got t _ s c h in bind-is t′ _ s c (w .is c (b .0) (b .1) (b .2)) (b .3) }
-wider-of {s} {t} {t′} u n kNamedLength w = record { is = λ c x d h. let b = bind-got t _ s c h in bind-is t′ _ s c (w .is c (b .0) (b .1) (b .2)) (b .3) }
-wider-of {s} {t} {t′} u n kArraylike w = record { is = λ c x d h. let b = bind-got t _ s c h in bind-is t′ _ s c (w .is c (b .0) (b .1) (b .2)) (b .3) }
+wider-of {s} {t} {t′} u n kArray w = record { is = λ c x d h. let b = bind-got t _ s c h in bind-is t′ _ s c (w .is c (b .0) (b .1) (b .2)) ∙ b .3 }
+wider-of {s} {t} {t′} u n kNamedLength w = record { is = λ c x d h. let b = bind-got t _ s c h in bind-is t′ _ s c (w .is c (b .0) (b .1) (b .2)) ∙ b .3 }
+wider-of {s} {t} {t′} u n kArraylike w = record { is = λ c x d h. let b = bind-got t _ s c h in bind-is t′ _ s c (w .is c (b .0) (b .1) (b .2)) ∙ b .3 }
 wider-of u n kStruct w = record { is = λ c x d h. h }
 wider-of u n kWord w = record { is = λ c x d h. h }
 wider-of u n kUnresolved w = record { is = λ c x d h. h }
@@ -190,7 +181,7 @@ wider-own s (suc l) own = record {
   is = λ c x d h.
       let b = bind-got (such (below 26) (λ n _. not (own && eqb n 23)) 9) _ s c h in
       let g = such-got (below 26) (λ n _. not (own && eqb n 23)) 9 s c (b .2) in
-      bind-is (such (below 26) (λ n _. not (false && eqb n 23)) 9) _ s c (such-is (below 26) (λ n _. not (false && eqb n 23)) 9 s c (g .0) refl) (wider-of _ (b .0) _ (wider-own s l own) .is (b .1) x d (b .3));
+      bind-is (such (below 26) (λ n _. not (false && eqb n 23)) 9) _ s c (such-is (below 26) (λ n _. not (false && eqb n 23)) 9 s c (g .0) refl) ∙ wider-of _ (b .0) _ (wider-own s l own) .is (b .1) x d (b .3);
 }
 
 -- A TYPE BY ITS KIND
@@ -317,14 +308,6 @@ module _ {n : W.Tables} {k : Script} {e : K.Counts} {w : List ℕ} {a : Analyzer
       go (as-view {x′ = x′}) = none-handed (view x′) b
 
 -- THE KINDS
-
--- a run of equal entries of a table
-run : {A : Type 0} (l : List A) (from n : ℕ) (x d : A) → take n (drop from l) ≡ replicate n x → (k : ℕ) → from ≤ k → k < from + n → getD l k d ≡ x
-run l from n x d e k lo hi =
-    let i = k - from in
-    let z : from + i ≡ k = omega arith in
-    let h : i < n = omega arith in
-    ap (λ (j : ℕ). getD l j d) (sym z) ∙ sym (getD-drop from l i d) ∙ sym (getD-take n (drop from l) i d h) ∙ ap (λ (m : List _). getD m i d) e ∙ getD-replicate n i x d h
 
 -- k is this one, or a later one
 either : {X : Type 0} (k n : ℕ) → n ≤ k → (k ≡ n → X) → (n < k → X) → X

@@ -1,6 +1,6 @@
 -- An edge is handed over: by what found_container_1 answered.
 use mathlib.Core.Path.{_≡_, refl, sym, ap, subst, _∙_}
-use mathlib.Core.Bool.{Bool, true, false, not}
+use mathlib.Core.Bool.{Bool, true, false}
 use mathlib.Core.List.{List}
 use mathlib.Core.Option.{Option}
 use Prim.Native.Nat.{ℕ, _<_}
@@ -72,14 +72,6 @@ stays-holds : (h : Holder) (c : Ident Spot) (t : Maybe Spot (Ty Spot)) {i : Iden
 unfolding heldBy analyzeWellfoundedness
 stays-holds h c t stays e = refl
 stays-holds h c t goes e = absurd (let z : _≡_ {A = ℕ} 0 1 = cc in omega arith)
-
-pub not-true : (b : Bool) → not b ≡ true → b ≡ false
-not-true true e = sym e
-not-true false e = refl
-
-pub not-false : (b : Bool) → not b ≡ false → b ≡ true
-not-false true e = refl
-not-false false e = sym e
 
 -- one whose name was refused
 pub decides-nobody : (named : Bool) {row place : ℕ} → named ≡ false → Decides named row place H.Nobody

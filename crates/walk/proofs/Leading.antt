@@ -11,6 +11,7 @@ use Rattle.penne.specs.Tree.{Spot, Ident, Poison, Maybe, ok, err}
 use Rattle.penne.specs.Read.{place, ident}
 use Rattle.penne.specs.Write.{poisonB}
 use Rattle.penne.specs.Scopes.{Pass}
+pub use Rattle.penne.proofs.Leading.{never, same-value, same-cur}
 use Rattle.tree.specs.declared.number.Read.{Read}
 use Rattle.tree.specs.declared.number.Read.the-variants.{Number, Refused}
 use Rattle.tree.specs.declared.field.Identifier.{Identifier}
@@ -21,6 +22,7 @@ use Rattle.tree.specs.declared.counts.Passed.{Passed}
 use Rattle.tree.specs.declared.counts.Passed.the-variants as Q
 use Rattle.tree.specs.Answers.{cursor, numberOf, endOf, forget, identOf, identifiedOf, countsOf, passedOf, Gives, Reads, Ends, Skips, Identifies, Passes, twoPlaces, operator}
 use Rattle.tree.proofs.Chain.{Node, places-same, operator-same}
+use Rattle.tree.proofs.Scripts.{forget-got}
 use Rattle.walk.specs.declared.state.Walk.{Walk}
 use Rattle.walk.specs.declared.fault.Fault.{Fault}
 use Rattle.walk.specs.Walking.{here, Ground, Good, Stands, Is, onward, silently, Did, Leads, Input, Walks, faultB, okB, Answers, fine, bad, Tried, Tries}
@@ -28,17 +30,8 @@ use Rattle.walk.proofs.Loops.{Kept, kept-start, kept-more}
 
 -- WHAT A READING TELLS
 
-pub never : {X A : Type 0} {n p : ℕ} {x : A} {d : Cur} → _≡_ {A = Got A} (refused n p) (got x d) → X
-never e = let z : _≡_ {A = ℕ} 0 1 = cc in absurd (omega arith)
-
 pub never-unit : {X A : Type 0} {n p : ℕ} {x : A} {d : Cur} → _≡_ {A = Got A} (got x d) (refused n p) → X
 never-unit e = never (sym e)
-
-pub same-value : {A : Type 0} {x y : A} {c d : Cur} → got x c ≡ got y d → x ≡ y
-same-value e = cc
-
-pub same-cur : {A : Type 0} {x y : A} {c d : Cur} → got x c ≡ got y d → c ≡ d
-same-cur e = cc
 
 -- what `_>>=_` makes of the first answer
 abbrev after : {A C : Type 0} → (C → Reader A) → List ℕ → Got C → Got A
@@ -51,6 +44,10 @@ bind-go f t (refused i p) g = never g
 pub bind-got : {A C : Type 0} (m : Reader C) (f : C → Reader A) (t : List ℕ) (c : Cur) {x : A} {d : Cur} → (m >>= f) t c ≡ got x d → (y : C) × (e : Cur) × (m t c ≡ got y e) × (f y t e ≡ got x d)
 unfolding _>>=_
 bind-got m f t c g = bind-go f t (m t c) g
+
+pub bind-is : {A C : Type 0} (m : Reader C) (f : C → Reader A) (t : List ℕ) (c : Cur) {y : C} {e : Cur} → m t c ≡ got y e → (m >>= f) t c ≡ f y t e
+unfolding _>>=_
+bind-is m f t c h = ap (after f t) h
 
 -- a test that was passed
 unfoldable suchAfter : {A : Type 0} → (A → Cur → Bool) → (n at : ℕ) → Got A → Got A
@@ -131,11 +128,6 @@ module _ {A : Type 0} {t : List ℕ} {P : A → Cur → Type 0} where
     unfolding identifiedOf
     leads-unidentified e = leads-never ident f (sym (g .is k) ∙ ap (identifiedOf names at k) e)
 
-pub end-go : {C : Type 0} (q : Got C) {e : Cur} → got tt e ≡ forget q → (y : C) × (q ≡ got y e)
-unfolding forget
-end-go (got y d) h = (y, ap (got y) (sym (same-cur h)))
-end-go (refused i p) h = never-unit h
-
 pub unend-go : {C : Type 0} (q : Got C) {i p : ℕ} → refused i p ≡ forget q → q ≡ refused i p
 unfolding forget
 unend-go (got y d) h = never h
@@ -146,7 +138,7 @@ module _ {A : Type 0} {t : List ℕ} {P : A → Cur → Type 0} {C : Type 0} (f 
   module _ {k : Counts} {m₁ : Read} (g : Ends m t names at m₁) where
     pub leads-skip : {v n : ℕ} → m₁ ≡ Number v n → ((y : C) → m t (cursor at names k) ≡ got y (cursor n names k) → Leads (f y) t (cursor n names k) P) → Leads (m >>= f) t (cursor at names k) P
     unfolding endOf
-    leads-skip e next = let z = end-go (m t (cursor at names k)) (sym (ap (endOf names k) e) ∙ g .is k) in leads-when m f (z .1) (next (z .0) (z .1))
+    leads-skip e next = let z = forget-got (m t (cursor at names k)) (sym (ap (endOf names k) e) ∙ g .is k) in leads-when m f (z .1) (next (z .0) (z .1))
 
     pub leads-unskip : {i p : ℕ} → m₁ ≡ Refused i p → Leads (m >>= f) t (cursor at names k) P
     unfolding endOf
@@ -156,7 +148,7 @@ module _ {A : Type 0} {t : List ℕ} {P : A → Cur → Type 0} {C : Type 0} (f 
   module _ {k : K.Counts} {r : Passed} (g : Passes m t names k at r) where
     pub leads-pass : {n : ℕ} {k′ : K.Counts} → r ≡ Q.To n k′ → ((y : C) → m t (cursor at names (countsOf k)) ≡ got y (cursor n names (countsOf k′)) → Leads (f y) t (cursor n names (countsOf k′)) P) → Leads (m >>= f) t (cursor at names (countsOf k)) P
     unfolding passedOf
-    leads-pass e next = let z = end-go (m t (cursor at names (countsOf k))) (sym (ap (passedOf names) e) ∙ g .is) in leads-when m f (z .1) (next (z .0) (z .1))
+    leads-pass e next = let z = forget-got (m t (cursor at names (countsOf k))) (sym (ap (passedOf names) e) ∙ g .is) in leads-when m f (z .1) (next (z .0) (z .1))
 
     pub leads-unpass : {i p : ℕ} → r ≡ Q.Refused i p → Leads (m >>= f) t (cursor at names (countsOf k)) P
     unfolding passedOf
@@ -167,7 +159,7 @@ module _ {A : Type 0} {t : List ℕ} {P : A → Cur → Type 0} {m : Reader A} {
   pub leads-part : {v n : ℕ} → m₁ ≡ Number v n → ((y : A) → m t (cursor at names k) ≡ got y (cursor n names k) → P y (cursor n names k)) → Leads m t (cursor at names k) P
   unfolding endOf
   leads-part {v} {n} e next =
-      let z = end-go (m t (cursor at names k)) (sym (ap (endOf names k) e) ∙ g .is k) in
+      let z = forget-got (m t (cursor at names k)) (sym (ap (endOf names k) e) ∙ g .is k) in
       record { to = λ x d h. let q = sym (z .1) ∙ h in subst (λ (c : Cur). P x c) (same-cur q) (subst (λ (y : A). P y (cursor n names k)) (same-value q) (next (z .0) (z .1))) }
 
   pub leads-ended : {i p : ℕ} → m₁ ≡ Refused i p → Leads m t (cursor at names k) P

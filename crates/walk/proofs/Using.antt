@@ -70,7 +70,7 @@ function-keeps = record { ids = λ x a. refl }
 
 -- ONE USE BY ANOTHER
 
-abbrev stepped : Ground → Analyzer Spot → Ground
+abbrev pub stepped : Ground → Analyzer Spot → Ground
 stepped a b = record { out = a .out; st = b; rest = a .rest }
 
 good-back : (p : User) → Keeps p → (x : Ident Spot) (a : Ground) → Good (silently p x a) → Good a

@@ -2,7 +2,7 @@
 -- `walk::edges/cyclical` meets its contract. Assumes nothing.
 use borrow.Author.Needs.{needs}
 use native.Mathlib.Omega.{arith}
-use Rattle.walk.proofs.Following.{not-true, not-false}
+use Rattle.penne.proofs.Booleans.{not-true, not-false}
 use Rattle.walk.proofs.Cycling.{cyclical-constant, cyclical-structure, cyclical-both}
 use Rattle.walk.proofs.edges.cyclical.Statement.{statement}
 use Rattle.walk.proofs.edges.cyclical.Tie as tie

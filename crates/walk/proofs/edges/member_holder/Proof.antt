@@ -2,7 +2,8 @@
 -- `walk::edges/member_holder` meets its contract. Assumes nothing.
 use borrow.Author.Needs.{needs}
 use native.Mathlib.Omega.{arith}
-use Rattle.walk.proofs.Following.{not-true, not-false, decides-nobody, decides-by}
+use Rattle.penne.proofs.Booleans.{not-true, not-false}
+use Rattle.walk.proofs.Following.{decides-nobody, decides-by}
 use Rattle.walk.proofs.edges.member_holder.Statement.{statement}
 use Rattle.walk.proofs.edges.member_holder.Tie as tie
 
