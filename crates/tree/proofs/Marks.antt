@@ -20,17 +20,17 @@ use Rattle.tree.proofs.Names.{same-eq, refused-not}
 
 pub record Hashing (name : List ℕ) (h i : ℕ) : Type 0 where
   pub is : hashOf name ≡ hashFrom h (drop i name)
-  pub small : h < 67108864
+  pub small : h < 8388608
 
 pub hashing-start : {name : List ℕ} → Hashing name 0 0
 hashing-start = record { is = refl; small = omega arith }
 
 module _ {name : List ℕ} {h i : ℕ} (g : Hashing name h i) where
-  pub hashing-more : {b : ℕ} → i < length name → b ≡ getD name i 0 → Hashing name ((h * 53 + b) % 67108864) (i + 1)
+  pub hashing-more : {b : ℕ} → i < length name → b ≡ getD name i 0 → Hashing name ((h * 367 + b) % 8388608) (i + 1)
   unfolding hashFrom
   hashing-more {b} l e =
       let q : suc i ≡ i + 1 = omega arith in
-      record { is = g .is ∙ ap (hashFrom h) (drop-cons name i 0 l) ∙ ap (λ (x : ℕ). hashFrom ((h * 53 + x) % 67108864) (drop (suc i) name)) (sym e) ∙ ap (λ (j : ℕ). hashFrom ((h * 53 + b) % 67108864) (drop j name)) q; small = omega arith }
+      record { is = g .is ∙ ap (hashFrom h) (drop-cons name i 0 l) ∙ ap (λ (x : ℕ). hashFrom ((h * 367 + x) % 8388608) (drop (suc i) name)) (sym e) ∙ ap (λ (j : ℕ). hashFrom ((h * 367 + b) % 8388608) (drop j name)) q; small = omega arith }
 
   pub hashing-done : length name ≤ i → h ≡ hashOf name
   unfolding hashFrom

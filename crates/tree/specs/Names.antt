@@ -53,7 +53,7 @@ pub record OneMore (count : ℕ) (s : List ℕ) (from at : ℕ) (r : Read) : Typ
 -- a name's number: which one is of no matter, as long as equal names have the same
 unfoldable pub hashFrom : (h : ℕ) → List ℕ → ℕ
 hashFrom h [] = h
-hashFrom h (b ∷ bs) = hashFrom ((h * 53 + b) % 67108864) bs
+hashFrom h (b ∷ bs) = hashFrom ((h * 367 + b) % 8388608) bs
 
 abbrev pub hashOf : List ℕ → ℕ
 hashOf name = hashFrom 0 name

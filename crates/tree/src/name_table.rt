@@ -73,7 +73,7 @@ fn hash(name: &[u8]) -> u32
     let mut h = 0u32;
     let mut i = 0usize;
     while i < name.len() {
-        h = (h * 53 + value(name[i])) % 67108864;
+        h = (h * 367 + value(name[i])) % 8388608;
         i += 1;
     }
     h
