@@ -9,3 +9,4 @@ pub mod Names
 pub mod Scripts
 pub mod Unique
 pub mod Marks
+pub mod Noting

@@ -197,7 +197,7 @@ module _ {s : List ℕ} {l : Layout} {rest declared : ℕ} {k : C.Counts} {cur :
 pub not-laid-no : {r : Read} {i p : ℕ} → r ≡ Refused i p → notLaidBy r ≡ L.Refused i p
 not-laid-no e = ap notLaidBy e
 
-laid-not : {X : Type 0} {l : Layout} {n p : ℕ} → L.Refused n p ≡ L.Out l → X
+pub laid-not : {X : Type 0} {l : Layout} {n p : ℕ} → L.Refused n p ≡ L.Out l → X
 laid-not e = let z : _≡_ {A = ℕ} 0 1 = cc in absurd (omega arith)
 
 laid-out-not : {X : Type 0} {l : Layout} {n p : ℕ} → L.Out l ≡ L.Refused n p → X
@@ -206,7 +206,7 @@ laid-out-not e = laid-not (sym e)
 laid-same : {n p m q : ℕ} → L.Refused n p ≡ L.Refused m q → (n ≡ m) × (p ≡ q)
 laid-same e = (cc, cc)
 
-out-same : {l k : Layout} → L.Out l ≡ L.Out k → l ≡ k
+pub out-same : {l k : Layout} → L.Out l ≡ L.Out k → l ≡ k
 out-same e = cc
 
 -- a refusal before the depths

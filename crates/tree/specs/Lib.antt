@@ -1,3 +1,4 @@
 pub mod Answers
 pub mod Names
 pub mod Script
+pub mod Ends

@@ -8,6 +8,7 @@ pub mod counts; // what row 8 counts
 pub mod statement; // statements and bodies
 pub mod declaration; // declarations
 pub mod name_table; // the table of names, and parts of the tree compared
+pub mod ends; // where declarations end, noted once
 pub mod script; // names, declarations and depths together
 
 use number::Read;
@@ -18,6 +19,7 @@ use script::lay_out;
 use script::not_laid;
 ghost use mathlib.Core.Path.{_≡_};
 ghost use Rattle.penne.specs.Read.{incoming, answered};
+ghost use Rattle.tree.specs.Ends.{Remembers};
 ghost use Rattle.tree.specs.Script.{verdictOf, refusal, unlaidBy, IncomingLayout, AnsweredLayout};
 
 pub enum Verdict {
@@ -29,17 +31,18 @@ pub enum Verdict {
 pub fn incoming(tree: &[u8]) -> Verdict
     ensures { λ r. ⌜ verdictOf r ≡ refusal incoming (now (tree .entry)) ⌝ }
 {
-    unlaid(incoming_layout(tree))
+    let mut none = [0u32; 1];
+    unlaid(incoming_layout(tree, &mut none))
 }
 
-// The same, with where its parts stand.
-pub fn incoming_layout(tree: &[u8]) -> Laid
-    ensures { λ r. ⌜ IncomingLayout (now (tree .entry)) r ⌝ }
+// The same, with where its parts stand. It is noted where each declaration ends.
+pub fn incoming_layout(tree: &[u8], ends: &mut [u32]) -> Laid
+    ensures { λ r. ⌜ IncomingLayout (now (tree .entry)) r × Remembers (now (tree .entry)) (now (ends .entry)) r (now (ends .exit)) ⌝ }
 {
     if 65535 < tree.len() {
         return Laid::Refused(1, 0);
     }
-    let laid = lay_out(tree);
+    let laid = lay_out(tree, ends);
     let Laid::Out(l) = laid else {
         return laid;
     };
@@ -69,7 +72,8 @@ pub fn answered_layout(tree: &[u8]) -> Laid
     if 65535 < tree.len() {
         return Laid::Refused(1, 0);
     }
-    let laid = lay_out(tree);
+    let mut none = [0u32; 1];
+    let laid = lay_out(tree, &mut none);
     let Laid::Out(l) = laid else {
         return laid;
     };

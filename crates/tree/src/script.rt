@@ -2,6 +2,7 @@
 use super::counts::Counts;
 use super::counts::Passed;
 use super::declaration::declaration;
+use super::ends::note;
 use super::name_table::name_table;
 use super::number::Read;
 use super::number::below;
@@ -11,6 +12,7 @@ ghost use lib.ListN.{getD};
 ghost use Rattle.penne.specs.Reader.{many};
 ghost use Rattle.penne.specs.Read.{readDecl, declKinds, kBadDecl};
 ghost use Rattle.tree.specs.Answers.{Gives, Passes};
+ghost use Rattle.tree.specs.Ends.{Known, Remembers};
 ghost use Rattle.tree.specs.Script.{Lays, notLaidBy, depthBy, IncomingDepths, AnsweredDepths};
 
 // Where the parts of a tree stand: how many names, how many declarations, the first declaration, the first depth.
@@ -26,9 +28,9 @@ pub enum Laid {
     Refused(u32, usize),
 }
 
-// The tree up to its depths.
-pub fn lay_out(tree: &[u8]) -> Laid
-    ensures { λ r. ⌜ Lays (now (tree .entry)) r ⌝ }
+// The tree up to its depths. It is noted where each declaration ends.
+pub fn lay_out(tree: &[u8], ends: &mut [u32]) -> Laid
+    ensures { λ r. ⌜ Lays (now (tree .entry)) r × Remembers (now (tree .entry)) (now (ends .entry)) r (now (ends .exit)) ⌝ }
 {
     let names = number(tree, 0);
     let Read::Number(n, a) = names else {
@@ -47,6 +49,7 @@ pub fn lay_out(tree: &[u8]) -> Laid
     };
     let list = declarations(
         tree,
+        ends,
         n,
         Counts {
             containers: 0,
@@ -78,9 +81,16 @@ pub fn not_laid(r: Read) -> Laid
     }
 }
 
-// So many declarations.
-pub fn declarations(tree: &[u8], names: u32, counts: Counts, count: u32, at: usize) -> Passed
-    ensures { λ r. ⌜ Passes (many readDecl count) (now (tree .entry)) names counts at r ⌝ }
+// So many declarations, each noted in the row of its number, counted from the last.
+pub fn declarations(
+    tree: &[u8],
+    ends: &mut [u32],
+    names: u32,
+    counts: Counts,
+    count: u32,
+    at: usize,
+) -> Passed
+    ensures { λ r. ⌜ Passes (many readDecl count) (now (tree .entry)) names counts at r × (Known (now (tree .entry)) names (now (ends .entry)) → Known (now (tree .entry)) names (now (ends .exit))) ⌝ }
 {
     let mut rest = count;
     let mut cur = at;
@@ -90,6 +100,7 @@ pub fn declarations(tree: &[u8], names: u32, counts: Counts, count: u32, at: usi
         let Passed::To(next, more) = one else {
             return one;
         };
+        note(ends, rest, so_far, cur, next, more);
         cur = next;
         so_far = more;
         rest -= 1;

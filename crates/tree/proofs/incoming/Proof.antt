@@ -8,7 +8,7 @@ use Rattle.tree.proofs.incoming.Statement.{statement}
 use Rattle.tree.proofs.incoming.Tie as tie
 
 returns : tie.Need-returns
-returns c = verdict-is incoming (c .before .incoming-layout .ensures) (c .unlaid .ensures)
+returns c = verdict-is incoming (c .before .before .incoming-layout .ensures .0) (c .unlaid .ensures)
 
 pub incoming-spec : {M : Type 1} → statement M
-incoming-spec = tie.close (tie.spec (λ c κs. search needs) (λ c κs. search needs) returns)
+incoming-spec = tie.close (tie.spec (λ c. search needs) (λ c κs. search needs) (λ c κs. search needs) returns)

@@ -2,25 +2,36 @@
 -- `tree::incoming_layout` meets its contract. Assumes nothing.
 use borrow.Author.Needs.{needs}
 use native.Mathlib.Omega.{arith}
+use mathlib.Core.Path.{refl, _∙_}
 use Rattle.penne.specs.Read.{incoming}
-use Rattle.tree.proofs.Scripts.{layout-long, layout-unlaid, layout-refused, layout-left, layout-all, incoming-ends}
+use Rattle.tree.proofs.Scripts.{not-laid-no, layout-long, layout-unlaid, layout-refused, layout-left, layout-all, incoming-ends}
+use Rattle.tree.proofs.Noting.{unlaid-forgets, still-remembers}
 use Rattle.tree.proofs.incoming_layout.Statement.{statement}
 use Rattle.tree.proofs.incoming_layout.Tie as tie
 
 returns : tie.Need-returns
-returns c = layout-long incoming (c .if1 .taken)
+returns c = (layout-long incoming (c .if1 .taken), unlaid-forgets refl)
 
 returns-2 : tie.Need-returns-2
-returns-2 c = layout-unlaid incoming (c .before .before .before .if1 .left) (c .before .before .lay-out .ensures) (c .enum-told .given .1)
+returns-2 c = (layout-unlaid incoming (c .before .before .before .before .before .before .if1 .left) (c .before .before .before .before .lay-out .ensures .0) (c .enum-told .given .1), unlaid-forgets (c .enum-told .given .1))
+
+same-length-2 : tie.Need-same-length-2
+same-length-2 c = (c .before .before .before .before .before .before .before .before .before .lay-out .kept .1 .0)
 
 returns-3 : tie.Need-returns-3
-returns-3 c = layout-refused incoming (c .before .before .before .before .before .before .before .before .if1 .left) (c .before .before .before .before .before .before .before .lay-out .ensures) (c .before .before .before .before .before .laid .given .1) (incoming-ends (c .before .before .before .before .before .before .before .lay-out .ensures) (c .before .before .before .before .before .laid .given .1) (c .before .before .before .incoming-depths .ensures)) (c .before .enum-told2 .given .1) (c .not-laid .ensures)
+returns-3 c = (layout-refused incoming (c .before .before .before .before .before .before .before .before .before .before .before .if1 .left) (c .before .before .before .before .before .before .before .before .before .lay-out .ensures .0) (c .before .before .before .before .before .laid .given .1) (incoming-ends (c .before .before .before .before .before .before .before .before .before .lay-out .ensures .0) (c .before .before .before .before .before .laid .given .1) (c .before .before .before .incoming-depths .ensures)) (c .before .enum-told2 .given .1) (c .not-laid .ensures), unlaid-forgets ((c .not-laid .ensures) ∙ not-laid-no (c .before .enum-told2 .given .1)))
+
+same-length-3 : tie.Need-same-length-3
+same-length-3 c = (c .before .before .before .before .before .before .before .before .before .before .lay-out .kept .1 .0)
 
 returns-4 : tie.Need-returns-4
-returns-4 c = layout-left incoming (c .before .before .before .before .before .before .before .before .before .if1 .left) (c .before .before .before .before .before .before .before .before .lay-out .ensures) (c .before .before .before .before .before .before .laid .given .1) (incoming-ends (c .before .before .before .before .before .before .before .before .lay-out .ensures) (c .before .before .before .before .before .before .laid .given .1) (c .before .before .before .before .incoming-depths .ensures)) (c .before .before .depths .given .1) (c .if2 .taken)
+returns-4 c = (layout-left incoming (c .before .before .before .before .before .before .before .before .before .before .before .before .if1 .left) (c .before .before .before .before .before .before .before .before .before .before .lay-out .ensures .0) (c .before .before .before .before .before .before .laid .given .1) (incoming-ends (c .before .before .before .before .before .before .before .before .before .before .lay-out .ensures .0) (c .before .before .before .before .before .before .laid .given .1) (c .before .before .before .before .incoming-depths .ensures)) (c .before .before .depths .given .1) (c .if2 .taken), unlaid-forgets refl)
+
+same-length-4 : tie.Need-same-length-4
+same-length-4 c = (c .before .before .before .before .before .before .before .before .before .before .lay-out .kept .1 .0)
 
 returns-5 : tie.Need-returns-5
-returns-5 c = layout-all incoming (c .before .before .before .before .before .before .before .before .before .if1 .left) (c .before .before .before .before .before .before .before .before .lay-out .ensures) (c .before .before .before .before .before .before .laid .given .1) (incoming-ends (c .before .before .before .before .before .before .before .before .lay-out .ensures) (c .before .before .before .before .before .before .laid .given .1) (c .before .before .before .before .incoming-depths .ensures)) (c .before .before .depths .given .1) (c .if2 .left)
+returns-5 c = (layout-all incoming (c .before .before .before .before .before .before .before .before .before .before .before .before .if1 .left) (c .before .before .before .before .before .before .before .before .before .before .lay-out .ensures .0) (c .before .before .before .before .before .before .laid .given .1) (incoming-ends (c .before .before .before .before .before .before .before .before .before .before .lay-out .ensures .0) (c .before .before .before .before .before .before .laid .given .1) (c .before .before .before .before .incoming-depths .ensures)) (c .before .before .depths .given .1) (c .if2 .left), still-remembers (c .before .before .before .before .before .before .laid .given .1) (c .before .before .before .before .before .before .before .before .before .before .lay-out .ensures .1))
 
 pub incoming-layout-spec : {M : Type 1} → statement M
-incoming-layout-spec = tie.close (tie.spec returns (λ c κs. search needs) (λ c. search needs) (λ c. search needs) returns-2 (λ c κs. search needs) (λ c. search needs) (λ c. search needs) (λ c κs. search needs) returns-3 returns-4 returns-5)
+incoming-layout-spec = tie.close (tie.spec returns (λ c κs. search needs) (λ c. search needs) (λ c. search needs) (λ c. search needs) returns-2 (λ c κs. search needs) (λ c. search needs) (λ c. search needs) (λ c κs. search needs) same-length-2 returns-3 same-length-3 returns-4 same-length-4 returns-5)
