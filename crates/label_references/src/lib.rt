@@ -14,26 +14,27 @@ use shape::Body;
 use shape::function_body;
 use tree::counts::Counts;
 use tree::counts::Passed;
-use tree::declaration::declaration;
+use tree::ends::past;
 use tree::script::Layout;
 ghost use Rattle.penne.specs.Reader.{many};
 ghost use Rattle.penne.specs.Read.{readDecl};
 ghost use Rattle.tree.specs.Answers.{cursor, countsOf};
+ghost use Rattle.tree.specs.Ends.{Known};
 ghost use Rattle.label_references.specs.Pass.{uncounted, Decides, DecidesAll, Pass};
 
 // All functions in their order; label ids count from 1 over all of them.
-pub fn label_references(tree: &[u8], work: &mut [u32], layout: Layout)
-    ensures { λ r. ⌜ Pass (now (tree .entry)) layout (now (work .entry)) (now (work .exit)) ⌝ }
+pub fn label_references(tree: &[u8], work: &mut [u32], ends: &[u32], layout: Layout)
+    ensures { λ r. ⌜ (Known (now (tree .entry)) (layout .names) (now (ends .entry)) → Pass (now (tree .entry)) layout (now (work .entry)) (now (work .exit))) ⌝ }
 {
     if work.len() < WORDS {
         return;
     }
-    declarations(tree, work, layout);
+    declarations(tree, work, ends, layout);
     clear_words(&mut work[SHAPES..LABEL_STACK_END]);
 }
 
-fn declarations(tree: &[u8], work: &mut [u32], layout: Layout)
-    ensures { λ r. ⌜ DecidesAll (many readDecl (layout .count) (now (tree .entry)) (cursor (layout .first) (layout .names) (countsOf uncounted))) uncounted 1 (now (work .entry)) (now (work .exit)) ⌝ }
+fn declarations(tree: &[u8], work: &mut [u32], ends: &[u32], layout: Layout)
+    ensures { λ r. ⌜ (Known (now (tree .entry)) (layout .names) (now (ends .entry)) → DecidesAll (many readDecl (layout .count) (now (tree .entry)) (cursor (layout .first) (layout .names) (countsOf uncounted))) uncounted 1 (now (work .entry)) (now (work .exit))) ⌝ }
 {
     let names = layout.names;
     let mut rest = layout.count;
@@ -47,7 +48,7 @@ fn declarations(tree: &[u8], work: &mut [u32], layout: Layout)
     let mut next_id = 1u32;
     while rest != 0 {
         next_id = function_labels(tree, work, names, at, so_far, next_id);
-        let one = declaration(tree, names, so_far, at);
+        let one = past(tree, ends, names, so_far, at, rest);
         let Passed::To(behind, more) = one else {
             return;
         };

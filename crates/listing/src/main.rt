@@ -45,7 +45,8 @@ fn list_depth(declaration: u32, depth: u32) {
 }
 
 fn list_depths(answer: &[u8]) {
-    let laid = lay_out(answer);
+    let mut none = [0u32; 1];
+    let laid = lay_out(answer, &mut none);
     let Laid::Out(l) = laid else {
         return;
     };

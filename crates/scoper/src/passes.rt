@@ -3,6 +3,7 @@ use answer::wrote::Wrote;
 use label_references::label_references;
 use memory::layout::WORDS;
 use memory::words::clear_words;
+use tree::ends::END_WORDS;
 use tree::incoming_layout;
 use tree::script::Laid;
 use tree::script::Layout;
@@ -11,6 +12,7 @@ use variable_references::script::variable_references;
 ghost use mathlib.Core.Path.{_≡_};
 ghost use lib.ListN.{length};
 ghost use Rattle.penne.specs.Scoper.{scopedAnswer};
+ghost use Rattle.tree.specs.Ends.{Known};
 ghost use Rattle.scoper.specs.Scoping.{Ending, Passes, roomed};
 
 // How many bytes of the answer and words of the list were written, or a refusal's number and place.
@@ -29,19 +31,27 @@ pub fn scope(tree: &[u8], answer: &mut [u8], list: &mut [u32], work: &mut [u32])
     if work.len() < WORDS {
         return Ended::Refused(2, 0);
     }
-    let laid = incoming_layout(tree);
+    let mut ends = [0u32; END_WORDS];
+    let laid = incoming_layout(tree, &mut ends);
     match laid {
-        Laid::Out(layout) => pass(tree, answer, list, work, layout),
+        Laid::Out(layout) => pass(tree, answer, list, work, &ends, layout),
         Laid::Refused(number, place) => Ended::Refused(number, place),
     }
 }
 
-fn pass(tree: &[u8], answer: &mut [u8], list: &mut [u32], work: &mut [u32], layout: Layout) -> Ended
-    ensures { λ r. ⌜ Passes (now (tree .entry)) layout (now (answer .entry)) (now (list .entry)) (now (work .entry)) r (now (answer .exit)) (now (list .exit)) ⌝ }
+fn pass(
+    tree: &[u8],
+    answer: &mut [u8],
+    list: &mut [u32],
+    work: &mut [u32],
+    ends: &[u32],
+    layout: Layout,
+) -> Ended
+    ensures { λ r. ⌜ (Known (now (tree .entry)) (layout .names) (now (ends .entry)) → Passes (now (tree .entry)) layout (now (answer .entry)) (now (list .entry)) (now (work .entry)) r (now (answer .exit)) (now (list .exit))) ⌝ }
 {
     clear_words(work);
-    label_references(tree, work, layout);
-    let answered = variable_references(tree, answer, list, work, layout);
+    label_references(tree, work, ends, layout);
+    let answered = variable_references(tree, answer, list, work, ends, layout);
     if_room(answered)
 }
 

@@ -12,11 +12,12 @@ use memory::layout::WORDS;
 use memory::words::next;
 use tree::counts::Counts;
 use tree::counts::Passed;
-use tree::declaration::declaration as past_declaration;
+use tree::ends::past;
 use tree::field::Identifier;
 use tree::number::Read;
 use tree::number::below;
 use tree::script::Layout;
+ghost use Rattle.tree.specs.Ends.{Known};
 ghost use Rattle.variable_references.specs.Stages.{Pushed, Predeclares, PredeclaresAll};
 
 // What is counted when all is declared, and the next id.
@@ -25,8 +26,8 @@ pub struct Predeclared {
     pub next_id: u32,
 }
 
-pub fn predeclare_all(tree: &[u8], work: &mut [u32], layout: Layout) -> Predeclared
-    ensures { λ r. ⌜ PredeclaresAll (now (tree .entry)) layout (now (work .entry)) r (now (work .exit)) ⌝ }
+pub fn predeclare_all(tree: &[u8], work: &mut [u32], ends: &[u32], layout: Layout) -> Predeclared
+    ensures { λ r. ⌜ (Known (now (tree .entry)) (layout .names) (now (ends .entry)) → PredeclaresAll (now (tree .entry)) layout (now (work .entry)) r (now (work .exit))) ⌝ }
 {
     let names = layout.names;
     let mut rest = layout.count;
@@ -40,7 +41,7 @@ pub fn predeclare_all(tree: &[u8], work: &mut [u32], layout: Layout) -> Predecla
     let mut next_id = 1u32;
     while rest != 0 {
         next_id = predeclare(tree, work, names, so_far, at, next_id);
-        let one = past_declaration(tree, names, so_far, at);
+        let one = past(tree, ends, names, so_far, at, rest);
         let Passed::To(behind, more) = one else {
             return Predeclared {
                 counts: so_far,

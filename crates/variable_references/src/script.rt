@@ -16,7 +16,7 @@ use memory::layout::WORDS;
 use scopes::scope::Scope;
 use tree::counts::Counts;
 use tree::counts::Passed;
-use tree::declaration::declaration as past_declaration;
+use tree::ends::past;
 use tree::name_table::bytes_at;
 use tree::name_table::same;
 use tree::number::Read;
@@ -31,6 +31,7 @@ ghost use mathlib.Core.List.{_++_};
 ghost use Rattle.penne.specs.Reader.{many};
 ghost use Rattle.penne.specs.Read.{readDecl};
 ghost use Rattle.penne.specs.Write.{numB};
+ghost use Rattle.tree.specs.Ends.{Known};
 ghost use Rattle.answer.specs.Out.{Put};
 ghost use Rattle.answer.specs.Parts.{part};
 ghost use Rattle.walk.specs.Walking.{Walks};
@@ -49,11 +50,12 @@ pub fn variable_references(
     answer: &mut [u8],
     list: &mut [u32],
     work: &mut [u32],
+    ends: &[u32],
     layout: Layout,
 ) -> Answered
-    ensures { λ r. ⌜ References (now (tree .entry)) layout (now (answer .entry)) (now (list .entry)) (now (work .entry)) r (now (answer .exit)) (now (list .exit)) ⌝ }
+    ensures { λ r. ⌜ (Known (now (tree .entry)) (layout .names) (now (ends .entry)) → References (now (tree .entry)) layout (now (answer .entry)) (now (list .entry)) (now (work .entry)) r (now (answer .exit)) (now (list .exit))) ⌝ }
 {
-    let begin = predeclare_all(tree, work, layout);
+    let begin = predeclare_all(tree, work, ends, layout);
     let names = then_names(tree, answer);
     let x = then_number(answer, names, layout.count);
     let st = started(tree, layout, begin, x);
@@ -62,7 +64,7 @@ pub fn variable_references(
     let w = s.wrote;
     let listed = s.listed;
     Answered {
-        wrote: then_depths(tree, answer, work, s.script, layout, w),
+        wrote: then_depths(tree, answer, work, ends, s.script, layout, w),
         listed: listed,
     }
 }
@@ -198,11 +200,12 @@ fn then_depths(
     tree: &[u8],
     answer: &mut [u8],
     work: &[u32],
+    ends: &[u32],
     script: Script,
     layout: Layout,
     wrote: Wrote,
 ) -> Wrote
-    ensures { λ r. ⌜ SaysDepths (now (tree .entry)) script layout wrote (now (work .entry)) (now (answer .entry)) r (now (answer .exit)) ⌝ }
+    ensures { λ r. ⌜ (Known (now (tree .entry)) (layout .names) (now (ends .entry)) → SaysDepths (now (tree .entry)) script layout wrote (now (work .entry)) (now (answer .entry)) r (now (answer .exit))) ⌝ }
 {
     let names = layout.names;
     let mut rest = layout.count;
@@ -216,7 +219,7 @@ fn then_depths(
     };
     while rest != 0 {
         w = then_number(answer, w, depth_of(tree, work, script, so_far, at));
-        let one = past_declaration(tree, names, so_far, at);
+        let one = past(tree, ends, names, so_far, at, rest);
         let Passed::To(behind, more) = one else {
             return w;
         };

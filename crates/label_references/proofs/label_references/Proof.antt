@@ -7,10 +7,13 @@ use Rattle.label_references.proofs.label_references.Statement.{statemen
 use Rattle.label_references.proofs.label_references.Tie as tie
 
 returns : tie.Need-returns
-returns c = pass-short (c .if1 .taken)
+returns c = λ m. pass-short (c .if1 .taken)
+
+same-length : tie.Need-same-length
+same-length c = search needs
 
 returns-2 : tie.Need-returns-2
-returns-2 c = pass-done (search needs) (c .before .before .before .before .before .before .declarations .ensures) (c .before .before .before .before .before .before .declarations .kept .1 .0) (c .before .before .clear-words .ensures) (search needs)
+returns-2 c = λ m. pass-done (search needs) ((c .before .before .before .before .before .before .declarations .ensures) m) (c .before .before .before .before .before .before .declarations .kept .1 .0) (c .before .before .clear-words .ensures) (search needs)
 
 pub label-references-spec : {M : Type 1} → statement M
-label-references-spec = tie.close (tie.spec returns (λ c κs. search needs) (λ c. search needs) (λ c. search needs) (λ c. search needs) (λ c κs. search needs) (λ c. search needs) returns-2)
+label-references-spec = tie.close (tie.spec returns (λ c κs. search needs) (λ c. search needs) (λ c. search needs) (λ c. search needs) (λ c κs. search needs) same-length returns-2)

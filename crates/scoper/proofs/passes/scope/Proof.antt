@@ -4,6 +4,7 @@ use borrow.Author.Needs.{needs}
 use native.Mathlib.Omega.{arith}
 use mathlib.Core.Path.{refl}
 use Rattle.scoper.proofs.Scoping.{scope-long, scope-poor, scope-refused, scope-passed}
+use Rattle.tree.proofs.Noting.{known-none}
 use Rattle.scoper.proofs.passes.scope.Statement.{statement}
 use Rattle.scoper.proofs.passes.scope.Tie as tie
 
@@ -23,10 +24,10 @@ same-length-3 : tie.Need-same-length-3
 same-length-3 c = (c .before .before .before .before .before .before .pass .kept .1 .1 .1 .0)
 
 returns-3 : tie.Need-returns-3
-returns-3 c = scope-passed _ _ _ _ (c .before .before .before .before .before .before .before .before .before .before .before .before .before .before .before .if1 .left) (c .before .before .before .before .before .before .before .before .before .before .before .before .before .before .if2 .left) (c .before .before .before .before .before .before .before .before .before .before .before .before .before .incoming-layout .ensures) (c .before .before .before .before .before .before .before .before .before .before .before .laid .given .1) refl refl refl (λ i. omega (arith, (c .before .before .before .before .before .before .before .before .before .before .before .before .before .before .before .before .before .before .before .shared-slice-known .given) i)) (c .before .before .before .before .before .before .pass .ensures)
+returns-3 c = scope-passed _ _ _ _ (c .before .before .before .before .before .before .before .before .before .before .before .before .before .before .before .before .before .before .if1 .left) (c .before .before .before .before .before .before .before .before .before .before .before .before .before .before .before .before .before .if2 .left) (c .before .before .before .before .before .before .before .before .before .before .before .before .before .before .before .incoming-layout .ensures .0) (c .before .before .before .before .before .before .before .before .before .before .before .before .laid .given .1) refl refl refl (λ i. omega (arith, (c .before .before .before .before .before .before .before .before .before .before .before .before .before .before .before .before .before .before .before .before .before .before .shared-slice-known .given) i)) ((c .before .before .before .before .before .before .pass .ensures) ((c .before .before .before .before .before .before .before .before .before .before .before .before .before .before .before .incoming-layout .ensures .1 .keeps) _ (c .before .before .before .before .before .before .before .before .before .before .before .before .laid .given .1) (known-none 3840)))
 
 returns-4 : tie.Need-returns-4
-returns-4 c = scope-refused _ _ _ _ (c .before .before .before .before .before .if1 .left) (c .before .before .before .before .if2 .left) (c .before .before .before .incoming-layout .ensures) (c .before .laid2 .given .1)
+returns-4 c = scope-refused _ _ _ _ (c .before .before .before .before .before .before .before .if1 .left) (c .before .before .before .before .before .before .if2 .left) (c .before .before .before .before .incoming-layout .ensures .0) (c .before .laid2 .given .1)
 
 pub scope-spec : {M : Type 1} → statement M
-scope-spec = tie.close (tie.spec returns returns-2 (λ c κs. search needs) (λ c. search needs) (λ c κs. search needs) (λ c. search needs) same-length same-length-2 same-length-3 returns-3 returns-4)
+scope-spec = tie.close (tie.spec returns returns-2 (λ c. search needs) (λ c κs. search needs) (λ c. search needs) (λ c. search needs) (λ c κs. search needs) (λ c. search needs) same-length same-length-2 same-length-3 returns-3 returns-4)

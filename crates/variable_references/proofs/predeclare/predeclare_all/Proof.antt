@@ -2,31 +2,36 @@
 -- `variable_references::predeclare/predeclare_all` meets its contract. Assumes nothing.
 use borrow.Author.Needs.{needs}
 use native.Mathlib.Omega.{arith}
-use mathlib.Core.Path.{_∙_}
+use mathlib.Core.Path.{refl, _≡_, _∙_}
+use lib.ListN.{length}
+use Rattle.tree.specs.Ends.{Known}
 use Rattle.variable_references.proofs.Predeclaring.{Coming, coming-start, coming-more, all-halt, all-done}
 use Rattle.variable_references.proofs.predeclare.predeclare_all.Statement.{statement}
 use Rattle.variable_references.proofs.predeclare.predeclare_all.Tie as tie
 
 abbrev Inv-loop : tie.InvT-loop
-Inv-loop tree work₀ names rest₀ at₀ so-far₀ next-id₀ work rest at so-far next-id = Coming tree names rest₀ at₀ so-far₀ next-id₀ work₀ rest at so-far next-id work
+Inv-loop tree work₀ ends names rest₀ at₀ so-far₀ next-id₀ work rest at so-far next-id = (length work ≡ length work₀) × (Known tree names ends → Coming tree names rest₀ at₀ so-far₀ next-id₀ work₀ rest at so-far next-id work)
 
 abbrev μ-loop : tie.MeasureT-loop
-μ-loop tree work₀ names rest₀ at₀ so-far₀ next-id₀ work rest at so-far next-id = rest
+μ-loop tree work₀ ends names rest₀ at₀ so-far₀ next-id₀ work rest at so-far next-id = rest
 
 loop-holds : tie.Need-loop-holds Inv-loop μ-loop
-loop-holds c = coming-start
+loop-holds c = (refl, λ m. coming-start)
 
 same-length : tie.Need-same-length Inv-loop μ-loop
-same-length c = (c .before .before .before .before .before .predeclare .kept .1 .0) ∙ (c .before .before .before .before .before .before .before .before .loop .inv .long)
+same-length c = (c .before .before .before .before .before .predeclare .kept .1 .0) ∙ (c .before .before .before .before .before .before .before .before .loop .inv .0)
 
 returns : tie.Need-returns Inv-loop μ-loop
-returns c = all-halt (c .before .before .before .before .before .before .before .before .loop .inv) (c .before .before .before .before .before .before .before .loop-test .taken) (c .before .before .declaration .ensures) (c .enum-told .given .1)
+returns c = λ m. all-halt ((c .before .before .before .before .before .before .before .before .loop .inv .1) m) (c .before .before .before .before .before .before .before .loop-test .taken) ((c .before .before .past .ensures) m) (c .enum-told .given .1)
 
 loop-again : tie.Need-loop-again Inv-loop μ-loop
-loop-again c = coming-more (c .before .before .before .before .before .before .before .before .before .loop .inv) (c .before .before .before .before .before .before .before .before .loop-test .taken) (c .before .before .before .declaration .ensures) (c .before .one .given .1) (c .before .before .before .before .before .before .predeclare .ensures) (c .before .before .before .before .before .before .predeclare .kept .1 .0)
+loop-again c = ((c .before .before .before .before .before .before .predeclare .kept .1 .0) ∙ (c .before .before .before .before .before .before .before .before .before .loop .inv .0), λ m. coming-more ((c .before .before .before .before .before .before .before .before .before .loop .inv .1) m) (c .before .before .before .before .before .before .before .before .loop-test .taken) ((c .before .before .before .past .ensures) m) (c .before .one .given .1) (c .before .before .before .before .before .before .predeclare .ensures) (c .before .before .before .before .before .before .predeclare .kept .1 .0))
+
+same-length-2 : tie.Need-same-length-2 Inv-loop μ-loop
+same-length-2 c = (c .before .loop .inv .0)
 
 returns-2 : tie.Need-returns-2 Inv-loop μ-loop
-returns-2 c = all-done (c .before .loop .inv) (c .loop-test .left)
+returns-2 c = λ m. all-done ((c .before .loop .inv .1) m) (c .loop-test .left)
 
 pub predeclare-all-spec : {M : Type 1} → statement M
-predeclare-all-spec = tie.close (tie.spec Inv-loop μ-loop loop-holds (λ c κs. search needs) (λ c κs. search needs) (λ c. search needs) (λ c. search needs) same-length returns (λ c. search needs) (λ c. search needs) loop-again (λ c. search needs) returns-2)
+predeclare-all-spec = tie.close (tie.spec Inv-loop μ-loop loop-holds (λ c κs. search needs) (λ c κs. search needs) (λ c. search needs) (λ c. search needs) same-length returns (λ c. search needs) (λ c. search needs) loop-again same-length-2 returns-2)

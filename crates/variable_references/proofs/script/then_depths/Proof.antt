@@ -2,34 +2,36 @@
 -- `variable_references::script/then_depths` meets its contract. Assumes nothing.
 use borrow.Author.Needs.{needs}
 use native.Mathlib.Omega.{arith}
-use mathlib.Core.Path.{_∙_}
+use mathlib.Core.Path.{refl, _≡_, _∙_}
+use lib.ListN.{length}
+use Rattle.tree.specs.Ends.{Known}
 use Rattle.variable_references.proofs.Saying.{Saying, saying-start, saying-more, said-halt, said-done}
 use Rattle.variable_references.proofs.script.then_depths.Statement.{statement}
 use Rattle.variable_references.proofs.script.then_depths.Tie as tie
 
 abbrev Inv-loop : tie.InvT-loop
-Inv-loop tree answer₀ work script names rest₀ at₀ w₀ so-far₀ answer rest at w so-far = Saying tree work script names rest₀ at₀ so-far₀ w₀ answer₀ rest at so-far w answer
+Inv-loop tree answer₀ work ends script names rest₀ at₀ w₀ so-far₀ answer rest at w so-far = (length answer ≡ length answer₀) × (Known tree names ends → Saying tree work script names rest₀ at₀ so-far₀ w₀ answer₀ rest at so-far w answer)
 
 abbrev μ-loop : tie.MeasureT-loop
-μ-loop tree answer₀ work script names rest₀ at₀ w₀ so-far₀ answer rest at w so-far = rest
+μ-loop tree answer₀ work ends script names rest₀ at₀ w₀ so-far₀ answer rest at w so-far = rest
 
 loop-holds : tie.Need-loop-holds Inv-loop μ-loop
-loop-holds c = saying-start
+loop-holds c = (refl, λ m. saying-start)
 
 same-length : tie.Need-same-length Inv-loop μ-loop
-same-length c = (c .before .before .before .before .before .then-number .kept .0) ∙ (c .before .before .before .before .before .before .before .before .before .loop .inv .long)
+same-length c = (c .before .before .before .before .before .then-number .kept .0) ∙ (c .before .before .before .before .before .before .before .before .before .loop .inv .0)
 
 returns : tie.Need-returns Inv-loop μ-loop
-returns c = said-halt (c .before .before .before .before .before .before .before .before .before .loop .inv) (c .before .before .before .before .before .before .before .before .loop-test .taken) (c .before .before .declaration .ensures) (c .enum-told .given .1)
+returns c = λ m. said-halt ((c .before .before .before .before .before .before .before .before .before .loop .inv .1) m) (c .before .before .before .before .before .before .before .before .loop-test .taken) ((c .before .before .past .ensures) m) (c .enum-told .given .1)
 
 loop-again : tie.Need-loop-again Inv-loop μ-loop
-loop-again c = saying-more (c .before .before .before .before .before .before .before .before .before .before .loop .inv) (c .before .before .before .before .before .before .before .before .before .loop-test .taken) (c .before .before .before .declaration .ensures) (c .before .one .given .1) (c .before .before .before .before .before .before .before .depth-of .ensures) (c .before .before .before .before .before .before .then-number .ensures) (c .before .before .before .before .before .before .then-number .kept .0)
+loop-again c = ((c .before .before .before .before .before .before .then-number .kept .0) ∙ (c .before .before .before .before .before .before .before .before .before .before .loop .inv .0), λ m. saying-more ((c .before .before .before .before .before .before .before .before .before .before .loop .inv .1) m) (c .before .before .before .before .before .before .before .before .before .loop-test .taken) ((c .before .before .before .past .ensures) m) (c .before .one .given .1) (c .before .before .before .before .before .before .before .depth-of .ensures) (c .before .before .before .before .before .before .then-number .ensures) (c .before .before .before .before .before .before .then-number .kept .0))
 
 same-length-2 : tie.Need-same-length-2 Inv-loop μ-loop
-same-length-2 c = (c .before .loop .inv .long)
+same-length-2 c = (c .before .loop .inv .0)
 
 returns-2 : tie.Need-returns-2 Inv-loop μ-loop
-returns-2 c = said-done (c .before .loop .inv) (c .loop-test .left)
+returns-2 c = λ m. said-done ((c .before .loop .inv .1) m) (c .loop-test .left)
 
 pub then-depths-spec : {M : Type 1} → statement M
 then-depths-spec = tie.close (tie.spec Inv-loop μ-loop loop-holds (λ c κs. search needs) (λ c κs. search needs) (λ c κs. search needs) (λ c. search needs) (λ c. search needs) same-length returns (λ c. search needs) (λ c. search needs) loop-again same-length-2 returns-2)
