@@ -6,14 +6,14 @@ use Prim.Native.Nat.{ℕ, zero, suc, _+_, _-_, _<_, _≤_}
 use native.Mathlib.Omega.{arith}
 use lib.Dec.{eqb}
 use lib.ListN.{length, getD, set}
-use borrow.Author.Tests.{eq-eqb, ne-eqb}
+use borrow.Author.Tests.{eq-eqb, ne-eqb, eqb-true, eqb-false}
 use Rattle.penne.specs.Tree.{Spot, Ident}
 use Rattle.penne.specs.Find.{first, firstNamed}
 use Rattle.penne.proofs.Searching.{first-hit, first-miss}
 use Rattle.label_references.specs.declared.labels.Labels as L
 use Rattle.label_references.specs.Outcomes.{gotoWord}
 use Rattle.label_references.specs.Table.{Along, stop, step, Stacked}
-use Rattle.label_references.specs.Visit.{Finds, InScope, NameOf, Sets, LabelWord, Declares}
+use Rattle.label_references.specs.Visit.{Finds, InScope, NameOf, Bears, Sets, LabelWord, Declares}
 use Rattle.label_references.proofs.Along.{along-le}
 
 none-go : {w : List ℕ} {next i count : ℕ} {js : List (Ident Spot)} (name : ℕ) → Along (Stacked w next) i js count → count ≤ i → 0 ≡ gotoWord (firstNamed name js)
@@ -34,23 +34,29 @@ hit-go {name = name} (step {x = j} {xs = js} p r) h x y s m e =
     let (same, named) = head-go p x (omega arith) s m in
     same ∙ sym (ap gotoWord (first-hit (λ (i : Ident Spot). eqb (i .name) name) j js (eq-eqb (j .name) name (sym named ∙ e))))
 
-miss-go : {w : List ℕ} {next i count id n name r : ℕ} {js : List (Ident Spot)} → Along (Stacked w next) i js count → i < count → next ≤ 1025 → count ≤ 1024 → InScope w i id → NameOf w id n → (n ≡ name → ⊥) → Finds w (i + 1) count name r → r ≡ gotoWord (firstNamed name js)
+miss-go : {w : List ℕ} {next i count id n name r : ℕ} {js : List (Ident Spot)} → 13312 ≤ length w → Along (Stacked w next) i js count → i < count → next ≤ 1025 → count ≤ 1024 → InScope w i id → NameOf w id n → (n ≡ name → ⊥) → Finds w (i + 1) count name r → r ≡ gotoWord (firstNamed name js)
 unfolding firstNamed
-miss-go stop h x y s m e f = absurd (omega arith)
-miss-go {name = name} (step {x = j} {xs = js} p r) h x y s m e f =
+miss-go v stop h x y s m e f = absurd (omega arith)
+miss-go {name = name} v (step {x = j} {xs = js} p r) h x y s m e f =
     let (same, named) = head-go p x (omega arith) s m in
-    f .is r x y ∙ sym (ap gotoWord (first-miss (λ (i : Ident Spot). eqb (i .name) name) j js (ne-eqb (j .name) name (λ z. e (named ∙ z)))))
+    f .is v r x y ∙ sym (ap gotoWord (first-miss (λ (i : Ident Spot). eqb (i .name) name) j js (ne-eqb (j .name) name (λ z. e (named ∙ z)))))
 
 module _ {w : List ℕ} {i count name : ℕ} where
+  pub finds-short : length w < 13312 → Finds w i count name 0
+  finds-short h = record { is = λ v. absurd (omega arith) }
+
+  pub finds-many : 1024 < count → Finds w i count name 0
+  finds-many h = record { is = λ v a x y. absurd (omega arith) }
+
   pub finds-none : count ≤ i → Finds w i count name 0
-  finds-none h = record { is = λ a x y. none-go name a h }
+  finds-none h = record { is = λ v a x y. none-go name a h }
 
   module _ {id n : ℕ} (h : i < count) (s : InScope w i id) (m : NameOf w id n) where
     pub finds-hit : n ≡ name → Finds w i count name id
-    finds-hit e = record { is = λ a x y. hit-go a h x y s m e }
+    finds-hit e = record { is = λ v a x y. hit-go a h x y s m e }
 
     pub finds-miss : {r : ℕ} → (n ≡ name → ⊥) → Finds w (i + 1) count name r → Finds w i count name r
-    finds-miss e f = record { is = λ a x y. miss-go a h x y s m e f }
+    finds-miss e f = record { is = λ v a x y. miss-go v a h x y s m e f }
 
 -- whatever is found from here on is what is found
 pub record Finding (w : List ℕ) (i count name : ℕ) : Type 0 where
@@ -60,19 +66,22 @@ pub finding-start : {w : List ℕ} {count name : ℕ} → Finding w 0 count name
 finding-start = record { on = λ r f. f }
 
 module _ {w : List ℕ} {i count name : ℕ} (g : Finding w i count name) where
-  pub finding-hit : {id n : ℕ} → i < count → InScope w i id → NameOf w id n → n ≡ name → Finds w 0 count name id
-  finding-hit h s m e = g .on _ (finds-hit h s m e)
+  pub finding-hit : {t : Bool} → i < count → Bears w (getD w (12288 + i) 0) name t → t ≡ true → Finds w 0 count name (getD w (12288 + i) 0)
+  finding-hit h m e = g .on _ (finds-hit h (record { is = λ _. refl }) (m .named) (eqb-true (m .own) name (sym (m .is) ∙ e)))
 
-  pub finding-more : {id n : ℕ} → i < count → InScope w i id → NameOf w id n → (n ≡ name → ⊥) → Finding w (i + 1) count name
-  finding-more h s m e = record { on = λ r f. g .on r (finds-miss h s m e f) }
+  pub finding-more : {t : Bool} → i < count → Bears w (getD w (12288 + i) 0) name t → t ≡ false → Finding w (i + 1) count name
+  finding-more h m e = record { on = λ r f. g .on r (finds-miss {id = getD w (12288 + i) 0} h (record { is = λ _. refl }) (m .named) (eqb-false (m .own) name (sym (m .is) ∙ e)) f) }
 
   pub finding-none : count ≤ i → Finds w 0 count name 0
   finding-none h = g .on 0 (finds-none h)
 
 -- THE LEAVES
 
-pub name-of : {w : List ℕ} {id r : ℕ} → r ≡ getD w (2048 + (id - 1)) 0 → NameOf w id r
-name-of {w} {id} e = record { is = λ h₁ h₂. e ∙ ap (λ (i : ℕ). getD w i 0) (omega arith) }
+pub bears-none : {w : List ℕ} {id : ℕ} (name : ℕ) → 1024 < id → Bears w id name false
+bears-none name h = record { own = suc name; named = record { is = λ h₁ h₂. absurd (omega arith) }; is = sym (ne-eqb (suc name) name (λ z. omega arith)) }
+
+pub bears-own : {w : List ℕ} {id name : ℕ} → Bears w id name (eqb (getD w (2047 + id) 0) name)
+bears-own {w} {id} = record { own = getD w (2047 + id) 0; named = record { is = λ h₁ h₂. refl }; is = refl }
 
 pub sets-past : {k o : ℕ} {w : List ℕ} → 2048 ≤ k → Sets k o w w
 sets-past h = record { is = λ j. absurd (omega arith) }

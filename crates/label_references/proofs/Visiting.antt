@@ -192,7 +192,7 @@ unfolding outcomes labelsIn labels
 goto-go (leaf-row x r) e g h s f p = absurd (omega (arith, r .kinds))
 goto-go {k = k} {name = name} {found} {l = l} {a = a} {w = w} {w′} (goto-row {i = i} r) e g h s f p =
     let n : name ≡ i .name = s .is (r .low) (omega arith) ∙ r .insides in
-    let o : found ≡ gotoWord (firstNamed (i .name) (l .labelStack)) = f .is (g .stack) (omega arith) (omega (arith, g .few)) ∙ ap (λ (x : ℕ). gotoWord (firstNamed x (l .labelStack))) n in
+    let o : found ≡ gotoWord (firstNamed (i .name) (l .labelStack)) = f .is (g .words) (g .stack) (omega arith) (omega (arith, g .few)) ∙ ap (λ (x : ℕ). gotoWord (firstNamed x (l .labelStack))) n in
     subst (λ (x : ℕ). Did k (k + 1) (x ∷ []) [] l a w a w′) o (subst (λ (x : List ℕ). Did k (k + 1) (found ∷ []) [] l a w a x) (sym (p .is (r .low))) (did-goto k found g (omega arith) (r .low)))
 goto-go (label-row r) e g h s f p = absurd (omega (arith, r .kinds))
 goto-go (if-row r a) e g h s f p = absurd (omega (arith, r .kinds))
@@ -308,7 +308,7 @@ label-go {k = k} {name = name} {place} {earlier} {o} {l = l} {a} {b} {w} {w₁} 
     let m : place ≡ i .place .number = q .is (r .low) (omega arith) ∙ ap (λ (x : ℕ). getD w x 0) z ∙ r .words in
     let c : a .count < 1024 = omega (arith, g .few) in
     let y : 0 < a .next = omega (arith, g .few) in
-    let found : earlier ≡ gotoWord (firstNamed (i .name) (l .labelStack)) = f .is (g .stack) (omega arith) (omega arith) ∙ ap (λ (x : ℕ). gotoWord (firstNamed x (l .labelStack))) n in
+    let found : earlier ≡ gotoWord (firstNamed (i .name) (l .labelStack)) = f .is (g .words) (g .stack) (omega arith) (omega arith) ∙ ap (λ (x : ℕ). gotoWord (firstNamed x (l .labelStack))) n in
     let said : o ≡ labelWord (l .resolutionId) (firstNamed (i .name) (l .labelStack)) = word-go (firstNamed (i .name) (l .labelStack)) u found (g .next) (found-low (i .name) (g .stack) (omega arith)) in
     let kept : w′ ≡ stored k o (i .name) (i .place .number) a w =
     d .words c y room ∙ ap (λ (v : List ℕ). set (set (set v (2047 + a .next) name) (3071 + a .next) place) (12288 + a .count) (a .next)) (p .is (r .low)) ∙

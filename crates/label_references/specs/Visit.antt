@@ -1,7 +1,9 @@
 -- What the visit promises: where a part stands in the rows and the labels in scope are held, its outcomes are told afterwards, and the labels are held that the pass leaves in scope.
 use Prim.Native.Nat.{ℕ, suc, _+_, _<_, _≤_}
 use mathlib.Core.Path.{_≡_}
+use mathlib.Core.Bool.{Bool}
 use mathlib.Core.List.{List, [], _∷_, _++_}
+use lib.Dec.{eqb}
 use lib.ListN.{length, getD, set}
 use Rattle.penne.specs.Tree.{Spot, Ident, stmt, Stm}
 use Rattle.penne.specs.Find.{firstNamed}
@@ -64,7 +66,7 @@ pub record Shows (w : List ℕ) (from k r : ℕ) : Type 0 where
 
 -- r is the id of the first label of that name, of those in scope from the i-th on
 pub record Finds (w : List ℕ) (i count name r : ℕ) : Type 0 where
-  pub is : {next : ℕ} {js : List (Ident Spot)} → Along (Stacked w next) i js count → next ≤ 1025 → count ≤ 1024 → r ≡ gotoWord (firstNamed name js)
+  pub is : 13312 ≤ length w → {next : ℕ} {js : List (Ident Spot)} → Along (Stacked w next) i js count → next ≤ 1025 → count ≤ 1024 → r ≡ gotoWord (firstNamed name js)
 
 -- the i-th label in scope, and a label's name
 pub record InScope (w : List ℕ) (i r : ℕ) : Type 0 where
@@ -72,6 +74,12 @@ pub record InScope (w : List ℕ) (i r : ℕ) : Type 0 where
 
 pub record NameOf (w : List ℕ) (id r : ℕ) : Type 0 where
   pub is : 0 < id → id ≤ 1024 → r ≡ getD w (2047 + id) 0
+
+-- r says whether the label of that id has the name
+pub record Bears (w : List ℕ) (id name : ℕ) (r : Bool) : Type 0 where
+  pub own : ℕ
+  pub named : NameOf w id own
+  pub is : r ≡ eqb own name
 
 -- the outcome of statement k is set
 pub record Sets (k o : ℕ) (w w′ : List ℕ) : Type 0 where

@@ -4,6 +4,7 @@ use super::shape::shown;
 use memory::layout::LABEL_NAME;
 use memory::layout::LABEL_PLACE;
 use memory::layout::LABEL_STACK;
+use memory::layout::LABEL_STACK_END;
 use memory::layout::OUTCOMES;
 use memory::layout::SCOPES;
 use memory::layout::SHAPE_INSIDE;
@@ -11,9 +12,9 @@ use memory::layout::SHAPE_KIND;
 use memory::layout::SHAPE_PREVIOUS;
 use memory::layout::SHAPES;
 use memory::words::set_word;
-use memory::words::word;
-ghost use Prim.Native.Nat.{ℕ};
-ghost use Rattle.label_references.specs.Visit.{Visits, VisitsKind, VisitsList, Finds, InScope, NameOf, Sets, LabelWord, Declares, Shows};
+ghost use Prim.Native.Nat.{ℕ, _≤_};
+ghost use lib.ListN.{length};
+ghost use Rattle.label_references.specs.Visit.{Visits, VisitsKind, VisitsList, Finds, Bears, Sets, LabelWord, Declares, Shows};
 
 // How many labels are in scope, and the next label's id.
 pub struct Labels {
@@ -144,10 +145,16 @@ fn declare_label(work: &mut [u32], name: u32, place: u32, labels: Labels) -> Lab
 fn find_label(work: &[u32], count: usize, name: u32) -> u32
     ensures { λ r. ⌜ Finds (now (work .entry)) 0 count name r ⌝ }
 {
-    let mut i = 0;
+    if work.len() < LABEL_STACK_END {
+        return 0;
+    }
+    if 1024 < count {
+        return 0;
+    }
+    let mut i = 0usize;
     while i < count {
-        let id = label_in_scope(work, i);
-        if label_name(work, id) == name {
+        let id = work[LABEL_STACK + i];
+        if named(work, id, name) {
             return id;
         }
         i += 1;
@@ -155,25 +162,15 @@ fn find_label(work: &[u32], count: usize, name: u32) -> u32
     0
 }
 
-fn label_in_scope(work: &[u32], i: usize) -> u32
-    ensures { λ r. ⌜ InScope (now (work .entry)) i r ⌝ }
+// Has the label of that id the name?
+fn named(work: &[u32], id: u32, name: u32) -> bool
+    requires { ⌜ 3072 ≤ length (now work) ⌝ }
+    ensures { λ r. ⌜ Bears (now (work .entry)) id name r ⌝ }
 {
-    if 1024 <= i {
-        return 0;
-    }
-    word(work, LABEL_STACK + i)
-}
-
-fn label_name(work: &[u32], id: u32) -> u32
-    ensures { λ r. ⌜ NameOf (now (work .entry)) id r ⌝ }
-{
-    if id == 0 {
-        return 4294967295;
-    }
     if 1024 < id {
-        return 4294967295;
+        return false;
     }
-    word(work, SCOPES + LABEL_NAME + (id - 1) as usize)
+    work[SCOPES + LABEL_NAME - 1 + id as usize] == name
 }
 
 fn set_outcome(work: &mut [u32], k: u32, outcome: u32)

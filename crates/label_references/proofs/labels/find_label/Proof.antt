@@ -3,7 +3,7 @@
 use borrow.Author.Needs.{needs}
 use native.Mathlib.Omega.{arith}
 use Prim.Native.Nat.{_-_}
-use Rattle.label_references.proofs.Finding.{Finding, finding-start, finding-hit, finding-more, finding-none}
+use Rattle.label_references.proofs.Finding.{finds-short, finds-many, Finding, finding-start, finding-hit, finding-more, finding-none}
 use Rattle.label_references.proofs.labels.find_label.Statement.{statement}
 use Rattle.label_references.proofs.labels.find_label.Tie as tie
 
@@ -13,17 +13,23 @@ Inv-loop work count name i₀ i = Finding work i count name
 abbrev μ-loop : tie.MeasureT-loop
 μ-loop work count name i₀ i = count - i
 
+returns : tie.Need-returns Inv-loop μ-loop
+returns c = finds-short (c .if1 .taken)
+
+returns-2 : tie.Need-returns-2 Inv-loop μ-loop
+returns-2 c = finds-many (c .if2 .taken)
+
 loop-holds : tie.Need-loop-holds Inv-loop μ-loop
 loop-holds c = finding-start
 
-returns : tie.Need-returns Inv-loop μ-loop
-returns c = finding-hit (c .before .before .before .before .loop .inv) (c .before .before .before .loop-test .taken) (c .before .before .label-in-scope .ensures) (c .before .label-name .ensures) (c .if1 .taken)
+returns-3 : tie.Need-returns-3 Inv-loop μ-loop
+returns-3 c = finding-hit (c .before .before .before .before .loop .inv) (c .before .before .before .loop-test .taken) (c .before .named .ensures) (c .if3 .taken)
 
 loop-again : tie.Need-loop-again Inv-loop μ-loop
-loop-again c = finding-more (c .before .before .before .before .loop .inv) (c .before .before .before .loop-test .taken) (c .before .before .label-in-scope .ensures) (c .before .label-name .ensures) (c .if1 .left)
+loop-again c = finding-more (c .before .before .before .before .loop .inv) (c .before .before .before .loop-test .taken) (c .before .named .ensures) (c .if3 .left)
 
-returns-2 : tie.Need-returns-2 Inv-loop μ-loop
-returns-2 c = finding-none (c .before .loop .inv) (c .loop-test .left)
+returns-4 : tie.Need-returns-4 Inv-loop μ-loop
+returns-4 c = finding-none (c .before .loop .inv) (c .loop-test .left)
 
 pub find-label-spec : {M : Type 1} → statement M
-find-label-spec = tie.close (tie.spec Inv-loop μ-loop loop-holds (λ c κs. search needs) (λ c κs. search needs) returns (λ c. search needs) (λ c. search needs) loop-again returns-2)
+find-label-spec = tie.close (tie.spec Inv-loop μ-loop returns returns-2 loop-holds (λ c. search needs) (λ c. search needs) (λ c. search needs) (λ c κs. search needs) returns-3 (λ c. search needs) (λ c. search needs) loop-again returns-4)
