@@ -82,7 +82,7 @@ same-function (import b p) l = refl
 same-function (badDecl z) l = refl
 
 -- of those before the k-th
-same-functions : (ds : List (Decl Spot)) (k : ℕ) (l : Labels Spot) → flatMap functionNames (take k (labelsDecls ds l .0)) ≡ flatMap functionNames (take k ds)
+pub same-functions : (ds : List (Decl Spot)) (k : ℕ) (l : Labels Spot) → flatMap functionNames (take k (labelsDecls ds l .0)) ≡ flatMap functionNames (take k ds)
 unfolding labelsDecls flatMap
 same-functions ds zero l = refl
 same-functions [] (suc k) l = refl

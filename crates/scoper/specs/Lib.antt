@@ -1,3 +1,4 @@
 pub mod Scoping
 pub mod Asking
 pub mod Naming
+pub mod Meaning

@@ -18,7 +18,7 @@ use Rattle.tree.specs.declared.script.Laid.{Laid}
 use Rattle.tree.specs.declared.script.Laid.the-variants as L
 use Rattle.tree.specs.Answers.{Passes}
 use Rattle.tree.specs.Ends.{countsIn, Row, rowAt, Sound, Known, Same, Tells, Writes, Notes, Remembers}
-use Rattle.tree.proofs.Names.{true-not}
+use Rattle.penne.proofs.Booleans.{true-false}
 use Rattle.tree.proofs.Fields.{getD-past}
 use Rattle.tree.proofs.Scripts.{laid-not, out-same}
 
@@ -43,7 +43,7 @@ counts-path e₁ e₂ e₃ e₄ = λ t. record { containers = e₁ t; functions 
 
 module _ {a b : C.Counts} where
   pub not-same : Same a b false
-  not-same = record { is = λ e. true-not (sym e) }
+  not-same = record { is = λ e. true-false (sym e) }
 
   pub all-same : {r : Bool} → a .containers ≡ b .containers → a .functions ≡ b .functions → a .entries ≡ b .entries → (r ≡ true → a .statements ≡ b .statements) → Same a b r
   all-same e₁ e₂ e₃ h = record { is = λ e. counts-path e₁ e₂ e₃ (h e) }
@@ -156,7 +156,7 @@ notes-not = record { keeps = λ p g. g }
 
 module _ {m : List ℕ} {i at : ℕ} {k : C.Counts} where
   pub tells-not : Tells m i k at false
-  tells-not = record { some = λ e. true-not (sym e); begins = λ e. true-not (sym e); counts = λ e. true-not (sym e) }
+  tells-not = record { some = λ e. true-false (sym e); begins = λ e. true-false (sym e); counts = λ e. true-false (sym e) }
 
   pub tells-of : {w₁ w₂ : ℕ} {c : C.Counts} {r : Bool} → w₁ ≡ getD m (i + 9) 0 → (w₁ ≡ 0 → ⊥) → w₂ ≡ getD m i 0 → w₂ ≡ at → c ≡ countsIn m (i + 1) → Same c k r → Tells m i k at r
   tells-of e₁ z e₂ e e₃ h = record { some = λ q y. z (e₁ ∙ y); begins = λ q. sym e₂ ∙ e; counts = λ q. sym e₃ ∙ h .is q }
