@@ -1,7 +1,8 @@
-# Wrong definitions, each of which the tables of crates/penne/proofs have to refuse: file of specs/, what stands there, what is written instead.
-# Each is tried in a copy of the crate. At the root of the repository, about half a minute each:
+# Wrong definitions, each of which the tables of crates/penne/proofs and crates/vectors/proofs have to refuse: file of specs/, what stands there, what is written instead.
+# Each is tried in a copy of the crate, which has the table of crates/vectors beside its own. At the root of the repository, about half a minute each:
 #   python3 tools/penne/mutants.py [NUMBER ..]
 import os, re, shutil, subprocess, sys, tempfile
+from vectors import inside
 CRATE = 'crates/penne'
 
 MUTANTS = [
@@ -183,6 +184,8 @@ def tried(top, file, old, new):
 
 with tempfile.TemporaryDirectory() as top:
     shutil.copytree(CRATE, os.path.join(top, CRATE))
+    with open(os.path.join(top, CRATE, 'proofs/Vectors.antt'), 'w') as f: f.write(inside(open('crates/vectors/proofs/Vectors.antt').read()))
+    with open(os.path.join(top, CRATE, 'proofs/Lib.antt'), 'a') as f: f.write('pub mod Vectors\n')
     open(os.path.join(top, 'crates.txt'), 'w').write('penne:\n')
     wanted, alive = [int(x) for x in sys.argv[1:]], []
     for n, (file, old, new) in enumerate(MUTANTS):

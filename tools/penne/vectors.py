@@ -57,6 +57,9 @@ def choose(rows, differ, records, edges, other, refused):
     pick(refused, lambda r: r.number)
     return kept
 
+def inside(text): return text.replace('Rattle.penne.specs.', 'Rattle.penne.specs.').replace('Rattle.penne.proofs.', 'Rattle.penne.proofs.')  # as the crate itself names its modules
+def outside(text): return text.replace('Rattle.penne.specs.', 'Rattle.penne.specs.').replace('Rattle.penne.proofs.', 'Rattle.penne.proofs.')  # as another crate does
+
 HEAD = """use Prim.Native.Nat.{ℕ}
 use mathlib.Core.Bool.{true}
 use mathlib.Core.Path.{_≡_, refl}

@@ -7,7 +7,7 @@ use lib.Seq.{take-at}
 use Rattle.penne.specs.Tree.{Spot, Ident, poison, earlier}
 use Rattle.penne.specs.Read.{poisonFields}
 use Rattle.penne.specs.Write.{numB, eachB, placeB, identB, poisonB}
-use Rattle.tree.specs.Answers.{poisonNames, poisonPlaces}
+use Rattle.fields.specs.Answers.{poisonNames, poisonPlaces}
 use Rattle.answer.specs.declared.wrote.Wrote.{Wrote}
 use Rattle.answer.specs.Out.{Put}
 use Rattle.answer.specs.Parts.{identifierB, poisonedB}

@@ -6,7 +6,7 @@ use lib.ListN.{getD, take, drop}
 use lib.Dec.{ltb}
 use Rattle.penne.specs.Reader.{got, refused, num, nothing}
 use Rattle.penne.specs.Write.{numB, eachB}
-use Rattle.tree.specs.Answers.{cursor, poisonNames, poisonPlaces}
+use Rattle.fields.specs.Answers.{cursor, poisonNames, poisonPlaces}
 
 -- an identifier's bytes
 unfoldable pub identifierB : (name place id authority : ℕ) → List ℕ

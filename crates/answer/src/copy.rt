@@ -2,8 +2,8 @@
 use super::number::then_number;
 use super::wrote::Wrote;
 use super::wrote::settled;
-use tree::number::Read;
-use tree::number::number;
+use fields::number::Read;
+use fields::number::number;
 ghost use Rattle.answer.specs.Out.{Front, Put};
 ghost use Rattle.answer.specs.Parts.{part, renumbered};
 ghost use mathlib.Core.List.{_++_};

@@ -2,8 +2,8 @@
 use super::number::then_each;
 use super::number::then_number;
 use super::wrote::Wrote;
-use tree::poison::poison_names;
-use tree::poison::poison_places;
+use fields::poison::poison_names;
+use fields::poison::poison_places;
 ghost use Rattle.answer.specs.Out.{Put};
 ghost use Rattle.answer.specs.Parts.{poisonedB};
 

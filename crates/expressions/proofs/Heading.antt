@@ -3,7 +3,7 @@ use mathlib.Core.Path.{ap, _∙_}
 use mathlib.Core.List.{List}
 use Prim.Native.Nat.{ℕ}
 use Rattle.penne.specs.Write.{numB}
-use Rattle.tree.specs.declared.field.Identifier.{Identifier}
+use Rattle.fields.specs.declared.field.Identifier.{Identifier}
 use Rattle.answer.specs.declared.wrote.Wrote.{Wrote}
 use Rattle.answer.specs.Out.{Put}
 use Rattle.answer.specs.Parts.{renumbered}

@@ -15,10 +15,10 @@ use Rattle.penne.specs.State as S
 use Rattle.penne.specs.Scopes.{Analyzer, useVariable, useFunction, useFunctionAt}
 use Rattle.penne.specs.Variables.{analyzeBase, useCalled, callTo, analyzeNode, analyzeOption}
 use Rattle.penne.proofs.IdsPass.{still-called, still-node}
-use Rattle.tree.specs.declared.number.Read.{Read}
-use Rattle.tree.specs.declared.number.Read.the-variants.{Number}
-use Rattle.tree.specs.declared.field.Identifier.{Identifier}
-use Rattle.tree.specs.Answers.{cursor, numberOf, countsOf, identOf, Gives}
+use Rattle.fields.specs.declared.number.Read.{Read}
+use Rattle.fields.specs.declared.number.Read.the-variants.{Number}
+use Rattle.fields.specs.declared.field.Identifier.{Identifier}
+use Rattle.fields.specs.Answers.{cursor, numberOf, countsOf, identOf, Gives}
 use Rattle.answer.specs.declared.wrote.Wrote.{Wrote}
 use Rattle.answer.specs.Out.{Put}
 use Rattle.answer.specs.Parts.{identifierB, renumbered}

@@ -10,7 +10,7 @@ use Rattle.penne.specs.Write.{numB, count, nodeB}
 use Rattle.penne.specs.State as S
 use Rattle.penne.specs.Scopes.{Analyzer}
 use Rattle.penne.specs.Variables.{analyzeNode}
-use Rattle.tree.specs.Answers.{cursor, countsOf}
+use Rattle.fields.specs.Answers.{cursor, countsOf}
 use Rattle.tree.proofs.Scripts.{many-length}
 use Rattle.answer.specs.declared.wrote.Wrote.{Wrote}
 use Rattle.answer.specs.Out.{Put}

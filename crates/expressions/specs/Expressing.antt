@@ -7,7 +7,7 @@ use Rattle.penne.specs.Read.{toNodes}
 use Rattle.penne.specs.Write.{numB, count, nodeB}
 use Rattle.penne.specs.Scopes.{Pass, createAnonymousResolutionId}
 use Rattle.penne.specs.Variables.{analyzeNode}
-use Rattle.tree.specs.declared.field.Identifier.{Identifier}
+use Rattle.fields.specs.declared.field.Identifier.{Identifier}
 use Rattle.answer.specs.declared.wrote.Wrote.{Wrote}
 use Rattle.answer.specs.Out.{Put}
 use Rattle.answer.specs.Parts.{renumbered}

@@ -13,12 +13,12 @@ use Rattle.scoper.specs.declared.Scoped.{Scoped}
 use Rattle.scoper.specs.declared.Scoped.the-variants as S
 use Rattle.scoper.specs.Scoping.{outcomeOf, Scopes}
 use Rattle.scoper.proofs.Unique.{tree-is, list-is, work-is}
-use Rattle.scoper.specs.declared.Depth.{Depth}
-use Rattle.scoper.specs.declared.Depth.the-variants as D
-use Rattle.scoper.specs.declared.Named.{Named}
-use Rattle.scoper.specs.declared.Named.the-variants as N
-use Rattle.scoper.specs.Asking.{depthAsked}
-use Rattle.scoper.specs.Naming.{nameAsked}
+use Rattle.readers.specs.declared.Depth.{Depth}
+use Rattle.readers.specs.declared.Depth.the-variants as D
+use Rattle.readers.specs.declared.Named.{Named}
+use Rattle.readers.specs.declared.Named.the-variants as N
+use Rattle.readers.specs.Asking.{depthAsked}
+use Rattle.readers.specs.Naming.{nameAsked}
 use Rattle.hurdlebraid.specs.Telling.{Told, theWords, wordOf, toldWords, scopedTold, Analyzes, depthTold, nameTold}
 
 -- WORD BY WORD

@@ -1,10 +1,10 @@
 // The C interface. A slice is a pointer and a count. `outcome` gets what fits of: the refusal's number (0: none), its place, then two values; what is left of it is zero.
-use scoper::Depth;
-use scoper::Named;
+use readers::Depth;
+use readers::Named;
+use readers::get_container_depth;
+use readers::structure_name_at;
 use scoper::Scoped;
 use scoper::analyze;
-use scoper::get_container_depth;
-use scoper::structure_name_at;
 ghost use mathlib.Core.Path.{_≡_};
 ghost use lib.ListN.{length};
 ghost use Rattle.penne.specs.Scoper.{getContainerDepth, getStructureName};

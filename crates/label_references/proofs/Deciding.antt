@@ -12,11 +12,11 @@ use Rattle.penne.specs.Tree.{Spot, Ident, Maybe, ok, err, stmt, stmts, Stm, Bod
 use Rattle.penne.specs.Reader.{Counts, Cur, Got, got, refused, Reader, _>>=_, ret, many, listed, nothing}
 use Rattle.penne.specs.Read.{toStms, readStmt, readDecl}
 use Rattle.penne.specs.Labels.{Labels, labels, labelsBody, labelsDecl, popScope}
-use Rattle.tree.specs.declared.counts.Counts as C
-use Rattle.tree.specs.declared.counts.Passed.{Passed}
-use Rattle.tree.specs.declared.counts.Passed.the-variants as P
+use Rattle.fields.specs.declared.counts.Counts as C
+use Rattle.fields.specs.declared.counts.Passed.{Passed}
+use Rattle.fields.specs.declared.counts.Passed.the-variants as P
 use Rattle.tree.specs.declared.script.Layout.{Layout}
-use Rattle.tree.specs.Answers.{cursor, countsOf, Passes}
+use Rattle.fields.specs.Answers.{cursor, countsOf, Passes}
 use Rattle.tree.specs.Script.{LaidOut}
 use Rattle.label_references.specs.declared.labels.Labels as L
 use Rattle.label_references.specs.declared.shape.Shaped.{Shaped}

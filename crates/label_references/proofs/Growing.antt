@@ -11,7 +11,7 @@ use Rattle.penne.specs.Reader.{Counts, Cur, Got, got, refused, Reader, _>>=_, r
 use Rattle.penne.specs.Read.{place, ident, readPoison, either, maybe, option, readTy, read, toStms, StmtKind, kDeclaration, kAssignment, kMethodCall, kLoop, kGoto, kLabel, kIf, kBlock, kBadStmt, stmtKinds, stmtHead, stmtCounts, stmtOf, readStmt, elseOf, readDeclaration, readAssignment, readMethodCall, readJump, readIf, readBlock, readBody, readParam, DeclKind, kConstant, kFunction, kFunctionHead, kStructure, kImport, kBadDecl, declKinds, declHead, declCounts, declOf, readDecl, readConstant, readFunction, readFunctionHead, readStructure, readImport}
 use Rattle.label_references.specs.Outcomes.{labelsIn, statementsIn, bodyOf, bodyLabels, labelsInDecls}
 use Rattle.tree.specs.declared.script.Layout.{Layout}
-use Rattle.tree.specs.Answers.{cursor}
+use Rattle.fields.specs.Answers.{cursor}
 use Rattle.tree.specs.Script.{LaidOut}
 use Rattle.label_references.proofs.Leading.{Leads, leads-none, leads-ret, leads-bind}
 use Rattle.label_references.proofs.Keeping.{Same, Keeps, keeps-ret, keeps-bind, keeps-such, keeps-num, keeps-below, keeps-place, keeps-ident, keeps-many, keeps-listed, keeps-either, keeps-poison, keeps-maybe, keeps-option, keeps-ty, keeps-read, keeps-bytes}

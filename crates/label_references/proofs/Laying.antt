@@ -11,19 +11,19 @@ use borrow.Author.Tests.{leb-true}
 use Rattle.penne.specs.Tree.{Spot, Ident, Expr, stmt, elseBranch, Stm, goto, label, ifElse, block, noElse, orElse}
 use Rattle.penne.specs.Reader.{Counts, Cur, Got, got, refused, Reader, _>>=_, ret, num, below, many, listed, plus, fits, counted, counting, aStatement, anEntry}
 use Rattle.penne.specs.Read.{place, read, either, elseOf, toStms, readStmt, stmtHead, stmtOf, StmtKind, kDeclaration, kAssignment, kMethodCall, kLoop, kGoto, kLabel, kIf, kBlock, kBadStmt, stmtKinds, stmtCounts, readJump, readIf, readBlock}
-use Rattle.tree.specs.declared.number.Read.{Read}
-use Rattle.tree.specs.declared.number.Read.the-variants.{Number, Refused}
-use Rattle.tree.specs.declared.field.Identifier.{Identifier}
-use Rattle.tree.specs.declared.field.Identified.{Identified}
-use Rattle.tree.specs.declared.field.Identified.the-variants as I
-use Rattle.tree.specs.declared.counts.Counts as C
-use Rattle.tree.specs.declared.counts.Counted.{Counted}
-use Rattle.tree.specs.declared.counts.Counted.the-variants.{Are, TooMany}
-use Rattle.tree.specs.declared.counts.Passed.{Passed}
-use Rattle.tree.specs.declared.counts.Passed.the-variants as P
-use Rattle.tree.specs.Answers.{cursor, Gives, Ends, Skips, Identifies, identOf, operator, countsOf, Counting, passedBy, Passes}
-use Rattle.tree.proofs.Chain.{reads, ends-number, ends-place, operator-same, after}
-use Rattle.tree.proofs.Counting.{fitted, counting-fits}
+use Rattle.fields.specs.declared.number.Read.{Read}
+use Rattle.fields.specs.declared.number.Read.the-variants.{Number, Refused}
+use Rattle.fields.specs.declared.field.Identifier.{Identifier}
+use Rattle.fields.specs.declared.field.Identified.{Identified}
+use Rattle.fields.specs.declared.field.Identified.the-variants as I
+use Rattle.fields.specs.declared.counts.Counts as C
+use Rattle.fields.specs.declared.counts.Counted.{Counted}
+use Rattle.fields.specs.declared.counts.Counted.the-variants.{Are, TooMany}
+use Rattle.fields.specs.declared.counts.Passed.{Passed}
+use Rattle.fields.specs.declared.counts.Passed.the-variants as P
+use Rattle.fields.specs.Answers.{cursor, Gives, Ends, Skips, Identifies, identOf, operator, countsOf, Counting, passedBy, Passes}
+use Rattle.fields.proofs.Chain.{reads, ends-number, ends-place, operator-same, after}
+use Rattle.fields.proofs.Counting.{fitted, counting-fits}
 use Rattle.tree.proofs.Statements.{kind-value, stmt-unread, stmt-deep, stmt-many}
 use Rattle.label_references.specs.declared.shape.Shaped.{Shaped}
 use Rattle.label_references.specs.declared.shape.Shaped.the-variants.{To, Not}

@@ -8,18 +8,18 @@ use Rattle.penne.specs.Reader.{Counts, Cur, Got, got, refused, Reader, _>>=_, r
 use Rattle.penne.specs.Read.{ident, place}
 use Rattle.penne.proofs.Leading.{never as never-got}
 pub use Rattle.penne.proofs.Leading.{Leads}
-use Rattle.tree.specs.declared.number.Read.{Read}
-use Rattle.tree.specs.declared.number.Read.the-variants.{Number, Refused}
-use Rattle.tree.specs.declared.field.Identifier.{Identifier}
-use Rattle.tree.specs.declared.field.Identified.{Identified}
-use Rattle.tree.specs.declared.field.Identified.the-variants.{Is, Not}
-use Rattle.tree.specs.declared.counts.Counts as C
-use Rattle.tree.specs.declared.counts.Passed.{Passed}
-use Rattle.tree.specs.declared.counts.Passed.the-variants.{To}
-use Rattle.tree.specs.declared.counts.Passed.the-variants as P
-use Rattle.tree.specs.Answers.{cursor, endOf, forget, Gives, Reads, Ends, Skips, identOf, identifiedOf, Identifies, countsOf, passedOf, Passes, operator, twoPlaces}
-use Rattle.tree.proofs.Chain.{after, never, never′, here, operator-same, places-same, reads}
-use Rattle.tree.proofs.Fields.{goes, stops}
+use Rattle.fields.specs.declared.number.Read.{Read}
+use Rattle.fields.specs.declared.number.Read.the-variants.{Number, Refused}
+use Rattle.fields.specs.declared.field.Identifier.{Identifier}
+use Rattle.fields.specs.declared.field.Identified.{Identified}
+use Rattle.fields.specs.declared.field.Identified.the-variants.{Is, Not}
+use Rattle.fields.specs.declared.counts.Counts as C
+use Rattle.fields.specs.declared.counts.Passed.{Passed}
+use Rattle.fields.specs.declared.counts.Passed.the-variants.{To}
+use Rattle.fields.specs.declared.counts.Passed.the-variants as P
+use Rattle.fields.specs.Answers.{cursor, endOf, forget, Gives, Reads, Ends, Skips, identOf, identifiedOf, Identifies, countsOf, passedOf, Passes, operator, twoPlaces}
+use Rattle.fields.proofs.Chain.{after, never, never′, here, operator-same, places-same, reads}
+use Rattle.fields.proofs.Fields.{goes, stops}
 
 pub leads-none : {A : Type 0} {P : A → Cur → Type 0} (q : Got A) {i p : ℕ} → q ≡ refused i p → Leads q P
 leads-none q e = record { to = λ h. never-got (sym e ∙ h) }

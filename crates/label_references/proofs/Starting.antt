@@ -9,16 +9,16 @@ use lib.ListN.{length, getD}
 use Rattle.penne.specs.Tree.{Spot, Ident, Maybe, ok, err, Ty, expr, stmt, Stm, Body, Decl, function, Param}
 use Rattle.penne.specs.Reader.{Counts, Cur, Got, got, refused, Reader, _>>=_, ret, num, below, many, listed, plus, fits, counting, counted, nothing, aContainer, aFunction, anEntry}
 use Rattle.penne.specs.Read.{place, ident, readPoison, either, maybe, option, readTy, read, toStms, readStmt, readBody, readParam, DeclKind, kConstant, kFunction, kFunctionHead, kStructure, kImport, kBadDecl, declKinds, declHead, declCounts, declOf, readDecl, readConstant, readFunction, readFunctionHead, readStructure, readImport}
-use Rattle.tree.specs.declared.number.Read.{Read}
-use Rattle.tree.specs.declared.number.Read.the-variants.{Number, Refused}
-use Rattle.tree.specs.declared.counts.Counts as C
-use Rattle.tree.specs.declared.counts.Counted.{Counted}
-use Rattle.tree.specs.declared.counts.Counted.the-variants.{Are, TooMany}
-use Rattle.tree.specs.declared.counts.Passed.{Passed}
-use Rattle.tree.specs.declared.counts.Passed.the-variants as P
-use Rattle.tree.specs.Answers.{cursor, Gives, Ends, countsOf, Counting, passedBy, Passes}
-use Rattle.tree.proofs.Chain.{reads, ends-number, after}
-use Rattle.tree.proofs.Counting.{fitted, counting-fits}
+use Rattle.fields.specs.declared.number.Read.{Read}
+use Rattle.fields.specs.declared.number.Read.the-variants.{Number, Refused}
+use Rattle.fields.specs.declared.counts.Counts as C
+use Rattle.fields.specs.declared.counts.Counted.{Counted}
+use Rattle.fields.specs.declared.counts.Counted.the-variants.{Are, TooMany}
+use Rattle.fields.specs.declared.counts.Passed.{Passed}
+use Rattle.fields.specs.declared.counts.Passed.the-variants as P
+use Rattle.fields.specs.Answers.{cursor, Gives, Ends, countsOf, Counting, passedBy, Passes}
+use Rattle.fields.proofs.Chain.{reads, ends-number, after}
+use Rattle.fields.proofs.Counting.{fitted, counting-fits}
 use Rattle.tree.proofs.Statements.{kind-value, decl-unread, decl-many}
 use Rattle.label_references.specs.declared.shape.Start.{Start}
 use Rattle.label_references.specs.declared.shape.Start.the-variants as St

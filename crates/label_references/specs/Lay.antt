@@ -5,8 +5,8 @@ use mathlib.Core.List.{List, []}
 use lib.ListN.{length, getD}
 use Rattle.penne.specs.Tree.{Spot, Expr, stmt, elseBranch, Stm, ifElse}
 use Rattle.penne.specs.Reader.{Counts, Cur, Got, got}
-use Rattle.tree.specs.Answers.{cursor, countsOf}
-use Rattle.tree.specs.declared.counts.Counts as C
+use Rattle.fields.specs.Answers.{cursor, countsOf}
+use Rattle.fields.specs.declared.counts.Counts as C
 use Rattle.label_references.specs.declared.shape.Shaped.{Shaped}
 use Rattle.label_references.specs.declared.shape.Shaped.the-variants.{To}
 use Rattle.label_references.specs.Table.{Leaf, Row, single, list, Rows, turned, Off}

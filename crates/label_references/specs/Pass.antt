@@ -8,9 +8,9 @@ use Rattle.penne.specs.Tree.{Spot, Ident, stmt, Stm, Decl}
 use Rattle.penne.specs.Reader.{Cur, Got, got, listed}
 use Rattle.penne.specs.Read.{toStms, readStmt}
 use Rattle.penne.specs.Labels.{Labels, labelsDecl}
-use Rattle.tree.specs.Answers.{cursor, countsOf}
+use Rattle.fields.specs.Answers.{cursor, countsOf}
 use Rattle.tree.specs.Script.{LaidOut}
-use Rattle.tree.specs.declared.counts.Counts as C
+use Rattle.fields.specs.declared.counts.Counts as C
 use Rattle.tree.specs.declared.script.Layout.{Layout}
 use Rattle.label_references.specs.declared.shape.Start.{Start}
 use Rattle.label_references.specs.declared.shape.Start.the-variants as St

@@ -4,6 +4,8 @@
 pub mod shape; // the table of statements
 pub mod labels; // labels in scope, and the visit
 
+use fields::counts::Counts;
+use fields::counts::Passed;
 use labels::Labels;
 use labels::visit_list;
 use memory::layout::LABEL_STACK_END;
@@ -12,13 +14,11 @@ use memory::layout::WORDS;
 use memory::words::clear_words;
 use shape::Body;
 use shape::function_body;
-use tree::counts::Counts;
-use tree::counts::Passed;
 use tree::ends::past;
 use tree::script::Layout;
 ghost use Rattle.penne.specs.Reader.{many};
 ghost use Rattle.penne.specs.Read.{readDecl};
-ghost use Rattle.tree.specs.Answers.{cursor, countsOf};
+ghost use Rattle.fields.specs.Answers.{cursor, countsOf};
 ghost use Rattle.tree.specs.Ends.{Known};
 ghost use Rattle.label_references.specs.Pass.{uncounted, Decides, DecidesAll, Pass};
 

@@ -1,9 +1,9 @@
 // Reads a tree from standard input and lists what the scoper answers: lengths, skipped uses, depths; or the refusal.
+use fields::number::Read;
+use fields::number::number;
 use libc::STDOUT_FILENO;
 use memory::words::word;
 use scoper::Scoped;
-use tree::number::Read;
-use tree::number::number;
 use tree::script::Laid;
 use tree::script::lay_out;
 

@@ -3,7 +3,6 @@ pub mod Checks
 pub mod Run
 pub mod Sheet
 pub mod Limits
-pub mod Vectors
 pub mod Rooms
 pub mod Booleans
 pub mod Searching

@@ -1,4 +1,2 @@
 pub mod Scoping
-pub mod Asking
-pub mod Naming
 pub mod Meaning

@@ -13,13 +13,13 @@ use Rattle.penne.specs.State as S
 use Rattle.penne.specs.Scopes.{Analyzer}
 use Rattle.penne.specs.Variables.{analyzeNode, useCalled, methodTo, analyzeStm}
 use Rattle.penne.proofs.IdsPass.{still-node}
-use Rattle.tree.specs.declared.number.Read.{Read}
-use Rattle.tree.specs.declared.number.Read.the-variants.{Number, Refused}
-use Rattle.tree.specs.declared.field.Identifier.{Identifier}
-use Rattle.tree.specs.declared.field.Identified.{Identified}
-use Rattle.tree.specs.declared.field.Identified.the-variants as I
-use Rattle.tree.specs.Answers.{identOf, Gives, Identifies}
-use Rattle.tree.proofs.Chain.{reads}
+use Rattle.fields.specs.declared.number.Read.{Read}
+use Rattle.fields.specs.declared.number.Read.the-variants.{Number, Refused}
+use Rattle.fields.specs.declared.field.Identifier.{Identifier}
+use Rattle.fields.specs.declared.field.Identified.{Identified}
+use Rattle.fields.specs.declared.field.Identified.the-variants as I
+use Rattle.fields.specs.Answers.{identOf, Gives, Identifies}
+use Rattle.fields.proofs.Chain.{reads}
 use Rattle.tree.proofs.Statements.{from-last}
 use Rattle.answer.specs.declared.wrote.Wrote.{Wrote}
 use Rattle.answer.specs.Out.{Put}

@@ -14,12 +14,12 @@ use Rattle.penne.specs.Scopes.{inNewScope, withStack, nextId, createAnonymousRe
 use Rattle.penne.specs.Scopes as Q
 use Rattle.penne.specs.Variables.{analyzeNode, analyzeOption, analyzeInBody, analyzeBody}
 use Rattle.penne.proofs.IdsPass.{still-option}
-use Rattle.tree.specs.declared.number.Read.{Read}
-use Rattle.tree.specs.declared.number.Read.the-variants.{Number, Refused}
-use Rattle.tree.specs.declared.field.Identifier.{Identifier}
-use Rattle.tree.specs.declared.field.Identified.{Identified}
-use Rattle.tree.specs.declared.field.Identified.the-variants as I
-use Rattle.tree.specs.Answers.{cursor, countsOf, identOf, identifiedOf, Gives, Identifies}
+use Rattle.fields.specs.declared.number.Read.{Read}
+use Rattle.fields.specs.declared.number.Read.the-variants.{Number, Refused}
+use Rattle.fields.specs.declared.field.Identifier.{Identifier}
+use Rattle.fields.specs.declared.field.Identified.{Identified}
+use Rattle.fields.specs.declared.field.Identified.the-variants as I
+use Rattle.fields.specs.Answers.{cursor, countsOf, identOf, identifiedOf, Gives, Identifies}
 use Rattle.answer.specs.declared.wrote.Wrote.{Wrote}
 use Rattle.answer.specs.Out.{Put}
 use Rattle.answer.specs.Parts.{identifierB}

@@ -9,14 +9,14 @@ use Rattle.penne.specs.Tree.{Spot, stmt, Stm}
 use Rattle.penne.specs.Reader.{Counts, Cur, Reader, below, plus, fits, aStatement, anEntry, counted}
 use Rattle.penne.specs.Read.{readStmt, stmtOf, stmtHead, StmtKind, stmtKinds, stmtCounts, kDeclaration, kAssignment, kMethodCall, kLoop, kGoto, kLabel, kIf, kBlock, kBadStmt}
 use Rattle.penne.specs.Write.{stmB}
-use Rattle.tree.specs.declared.number.Read.{Read}
-use Rattle.tree.specs.declared.number.Read.the-variants.{Number, Refused}
-use Rattle.tree.specs.declared.counts.Counts as K
-use Rattle.tree.specs.declared.counts.Counted.{Counted}
-use Rattle.tree.specs.declared.counts.Counted.the-variants.{Are, TooMany}
-use Rattle.tree.specs.declared.counts.Passed.the-variants as P
-use Rattle.tree.specs.Answers.{cursor, countsOf, Gives, Counting, passedOf, passedBy, Passes}
-use Rattle.tree.proofs.Counting.{fitted}
+use Rattle.fields.specs.declared.number.Read.{Read}
+use Rattle.fields.specs.declared.number.Read.the-variants.{Number, Refused}
+use Rattle.fields.specs.declared.counts.Counts as K
+use Rattle.fields.specs.declared.counts.Counted.{Counted}
+use Rattle.fields.specs.declared.counts.Counted.the-variants.{Are, TooMany}
+use Rattle.fields.specs.declared.counts.Passed.the-variants as P
+use Rattle.fields.specs.Answers.{cursor, countsOf, Gives, Counting, passedOf, passedBy, Passes}
+use Rattle.fields.proofs.Counting.{fitted}
 use Rattle.tree.proofs.Statements as T
 use Rattle.label_references.specs.Marked.{rest}
 use Rattle.label_references.proofs.Laying.{fits-statements, one-statement}

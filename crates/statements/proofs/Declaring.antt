@@ -14,12 +14,12 @@ use Rattle.penne.specs.State as S
 use Rattle.penne.specs.Scopes.{Analyzer, declareVariable}
 use Rattle.penne.specs.Variables.{analyzeNode, analyzeOption, analyzeMaybeType, declarationOf, analyzeStm}
 use Rattle.penne.proofs.IdsPass.{still-option, still-carried, grown-declare}
-use Rattle.tree.specs.declared.number.Read.{Read}
-use Rattle.tree.specs.declared.number.Read.the-variants.{Number, Refused}
-use Rattle.tree.specs.declared.field.Identifier.{Identifier}
-use Rattle.tree.specs.declared.field.Identified.{Identified}
-use Rattle.tree.specs.declared.field.Identified.the-variants as I
-use Rattle.tree.specs.Answers.{cursor, countsOf, identOf, identifiedOf, Gives, Identifies, poisonNames, poisonPlaces}
+use Rattle.fields.specs.declared.number.Read.{Read}
+use Rattle.fields.specs.declared.number.Read.the-variants.{Number, Refused}
+use Rattle.fields.specs.declared.field.Identifier.{Identifier}
+use Rattle.fields.specs.declared.field.Identified.{Identified}
+use Rattle.fields.specs.declared.field.Identified.the-variants as I
+use Rattle.fields.specs.Answers.{cursor, countsOf, identOf, identifiedOf, Gives, Identifies, poisonNames, poisonPlaces}
 use Rattle.answer.specs.declared.wrote.Wrote.{Wrote}
 use Rattle.answer.specs.Out.{Put}
 use Rattle.answer.specs.Parts.{renumbered}

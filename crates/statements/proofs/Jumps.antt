@@ -16,13 +16,13 @@ use Rattle.penne.specs.Write.{numB, placeB, poisonB, stmB}
 use Rattle.penne.specs.State as S
 use Rattle.penne.specs.Scopes.{withPrunings, prepareToPruneAtGoto, pruneAtLabel}
 use Rattle.penne.specs.Variables.{analyzeStm}
-use Rattle.tree.specs.declared.number.Read.{Read}
-use Rattle.tree.specs.declared.number.Read.the-variants.{Number, Refused}
-use Rattle.tree.specs.declared.field.Identifier.{Identifier}
-use Rattle.tree.specs.declared.field.Identified.{Identified}
-use Rattle.tree.specs.declared.field.Identified.the-variants as I
-use Rattle.tree.specs.declared.counts.Counts as K
-use Rattle.tree.specs.Answers.{identOf, Gives, Identifies, poisonNames, poisonPlaces}
+use Rattle.fields.specs.declared.number.Read.{Read}
+use Rattle.fields.specs.declared.number.Read.the-variants.{Number, Refused}
+use Rattle.fields.specs.declared.field.Identifier.{Identifier}
+use Rattle.fields.specs.declared.field.Identified.{Identified}
+use Rattle.fields.specs.declared.field.Identified.the-variants as I
+use Rattle.fields.specs.declared.counts.Counts as K
+use Rattle.fields.specs.Answers.{identOf, Gives, Identifies, poisonNames, poisonPlaces}
 use Rattle.answer.specs.declared.wrote.Wrote.{Wrote}
 use Rattle.answer.specs.Out.{Put}
 use Rattle.answer.proofs.Fields.{identifier-bytes, poison-bytes}

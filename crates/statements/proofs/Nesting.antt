@@ -12,10 +12,10 @@ use Rattle.penne.specs.State as S
 use Rattle.penne.specs.Scopes.{Analyzer, inNewScope, withStack}
 use Rattle.penne.specs.Variables.{analyzeNode, analyzeStm}
 use Rattle.penne.proofs.IdsPass.{grown-stm}
-use Rattle.tree.specs.declared.number.Read.{Read}
-use Rattle.tree.specs.declared.number.Read.the-variants.{Number, Refused}
-use Rattle.tree.specs.Answers.{Gives, Skips, operator}
-use Rattle.tree.proofs.Chain.{reads}
+use Rattle.fields.specs.declared.number.Read.{Read}
+use Rattle.fields.specs.declared.number.Read.the-variants.{Number, Refused}
+use Rattle.fields.specs.Answers.{Gives, Skips, operator}
+use Rattle.fields.proofs.Chain.{reads}
 use Rattle.tree.proofs.Scripts.{many-length}
 use Rattle.answer.specs.declared.wrote.Wrote.{Wrote}
 use Rattle.answer.specs.Out.{Put}

@@ -1,12 +1,6 @@
-pub mod Numbers
-pub mod Chain
-pub mod Fields
 pub mod Types
 pub mod Nodes
-pub mod Counting
 pub mod Statements
-pub mod Names
 pub mod Scripts
 pub mod Unique
-pub mod Marks
 pub mod Noting

@@ -10,11 +10,11 @@ use borrow.Author.Tests.{eqb-true, eqb-false}
 use Rattle.penne.specs.Reader.{Reader, below, num}
 use Rattle.penne.specs.Tree.{Spot, Ty, expr, ref, step, signed, bits, badExpr, member}
 use Rattle.penne.specs.Read.{Readers, ident, read, head, restOf, exprOf, stepOf, readTy, ExprKind, exprKinds, kBadExpr, readInteger, readPoison}
-use Rattle.tree.specs.declared.number.Read.{Read}
-use Rattle.tree.specs.declared.number.Read.the-variants.{Number, Refused}
-use Rattle.tree.specs.Answers.{Gives, Ends}
-use Rattle.tree.proofs.Chain.{Node, reads, ends-number, ends-tail, ends-call, ends-halt}
-use Rattle.tree.proofs.Fields.{getD-past}
+use Rattle.fields.specs.declared.number.Read.{Read}
+use Rattle.fields.specs.declared.number.Read.the-variants.{Number, Refused}
+use Rattle.fields.specs.Answers.{Gives, Ends}
+use Rattle.fields.proofs.Chain.{Node, reads, ends-number, ends-tail, ends-call, ends-halt}
+use Rattle.fields.proofs.Fields.{getD-past}
 
 pub expr-node : Node (below 16) (λ l. read l expr) (λ l n. exprOf (read l) (readTy l false) (getD exprKinds n kBadExpr))
 unfolding read head restOf

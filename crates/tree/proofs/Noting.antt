@@ -10,16 +10,16 @@ use lib.ListN.{length, getD, set, replicate, length-set, length-replicate, getD-
 use lib.Seq.{getD-set-same, getD-set-other}
 use borrow.Author.Tests.{eqb-true, ltb-true, ltb-false}
 use Rattle.penne.specs.Read.{readDecl}
-use Rattle.tree.specs.declared.counts.Counts as C
-use Rattle.tree.specs.declared.counts.Passed.{Passed}
-use Rattle.tree.specs.declared.counts.Passed.the-variants.{To}
+use Rattle.fields.specs.declared.counts.Counts as C
+use Rattle.fields.specs.declared.counts.Passed.{Passed}
+use Rattle.fields.specs.declared.counts.Passed.the-variants.{To}
 use Rattle.tree.specs.declared.script.Layout.{Layout}
 use Rattle.tree.specs.declared.script.Laid.{Laid}
 use Rattle.tree.specs.declared.script.Laid.the-variants as L
-use Rattle.tree.specs.Answers.{Passes}
+use Rattle.fields.specs.Answers.{Passes}
 use Rattle.tree.specs.Ends.{countsIn, Row, rowAt, Sound, Known, Same, Tells, Writes, Notes, Remembers}
 use Rattle.penne.proofs.Booleans.{true-false}
-use Rattle.tree.proofs.Fields.{getD-past}
+use Rattle.fields.proofs.Fields.{getD-past}
 use Rattle.tree.proofs.Scripts.{laid-not, out-same}
 
 -- ONE WORD

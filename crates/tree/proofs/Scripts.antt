@@ -12,23 +12,23 @@ use Rattle.penne.specs.Reader.{Counts, Cur, Got, got, refused, Reader, _>>=_, r
 use Rattle.penne.specs.Tree.{Spot, Decl, Tree}
 use Rattle.penne.specs.Read.{readNames, tabled, readTree, ended, decode, incoming, answered, readDecl, declHead, declOf, DeclKind, declKinds, declCounts, kConstant, kFunction, kFunctionHead, kStructure, kImport, kBadDecl, readConstant, readFunction, readFunctionHead, readStructure, readImport}
 use Rattle.penne.proofs.Leading.{same-value, same-cur, never as got-never}
-use Rattle.tree.specs.declared.number.Read.{Read}
-use Rattle.tree.specs.declared.number.Read.the-variants.{Number, Refused}
-use Rattle.tree.specs.declared.counts.Counts as C
-use Rattle.tree.specs.declared.counts.Passed.{Passed}
-use Rattle.tree.specs.declared.counts.Passed.the-variants.{To}
-use Rattle.tree.specs.declared.counts.Passed.the-variants as P
+use Rattle.fields.specs.declared.number.Read.{Read}
+use Rattle.fields.specs.declared.number.Read.the-variants.{Number, Refused}
+use Rattle.fields.specs.declared.counts.Counts as C
+use Rattle.fields.specs.declared.counts.Passed.{Passed}
+use Rattle.fields.specs.declared.counts.Passed.the-variants.{To}
+use Rattle.fields.specs.declared.counts.Passed.the-variants as P
 use Rattle.tree.specs.declared.script.Layout.{Layout}
 use Rattle.tree.specs.declared.script.Laid.{Laid}
 use Rattle.tree.specs.declared.script.Laid.the-variants as L
 use Rattle.tree.specs.declared.Verdict.{Verdict}
 use Rattle.tree.specs.declared.Verdict.the-variants as W
-use Rattle.tree.specs.Answers.{cursor, numberOf, endOf, forget, Gives, Reads, Ends, Skips, countsOf, passedOf, Passes}
-use Rattle.tree.specs.Names.{namesFrom, tableOf, Tables}
+use Rattle.fields.specs.Answers.{cursor, numberOf, endOf, forget, Gives, Reads, Ends, Skips, countsOf, passedOf, Passes}
+use Rattle.fields.specs.Names.{namesFrom, tableOf, Tables}
 use Rattle.tree.specs.Script.{refusalOf, refusal, verdictOf, start, LaidOut, Lays, notLaidBy, unlaidBy, depthBy, IncomingDepths, AnsweredDepths, DecodedAs, LayoutAs}
-use Rattle.tree.proofs.Chain.{after, here, never, never′, reads, ends-number, ends-ret, ends-call, ends-halt, ends-tail, test-halt, test-passed, test-failed}
-use Rattle.tree.proofs.Fields.{goes, stops}
-use Rattle.tree.proofs.Counting.{forget-no, counting-no, counting-fits, counting-full}
+use Rattle.fields.proofs.Chain.{after, here, never, never′, reads, ends-number, ends-ret, ends-call, ends-halt, ends-tail, test-halt, test-passed, test-failed}
+use Rattle.fields.proofs.Fields.{goes, stops}
+use Rattle.fields.proofs.Counting.{forget-no, counting-no, counting-fits, counting-full}
 use Rattle.tree.proofs.Statements.{kind-value}
 
 -- BACK FROM AN ANSWER

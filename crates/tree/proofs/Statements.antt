@@ -10,19 +10,19 @@ use borrow.Author.Tests.{eqb-true, eqb-false}
 use Rattle.penne.specs.Reader.{Counts, Cur, Got, got, Reader, _>>=_, ret, num, below, counting, anEntry}
 use Rattle.penne.specs.Tree.{Spot, stmt, Stm, Decl, Body, ok, err, badStmt, badDecl, noElse, orElse}
 use Rattle.penne.specs.Read.{place, either, maybe, readPoison, elseOf, readStmt, stmtHead, stmtOf, StmtKind, stmtKinds, stmtCounts, kBadStmt, readDecl, declHead, declOf, DeclKind, declKinds, declCounts, kBadDecl}
-use Rattle.tree.specs.declared.number.Read.{Read}
-use Rattle.tree.specs.declared.number.Read.the-variants.{Number, Refused}
-use Rattle.tree.specs.declared.counts.Counts as C
-use Rattle.tree.specs.declared.counts.Counted.{Counted}
-use Rattle.tree.specs.declared.counts.Counted.the-variants.{Are, TooMany}
-use Rattle.tree.specs.declared.counts.Passed.{Passed}
-use Rattle.tree.specs.declared.counts.Passed.the-variants.{To}
-use Rattle.tree.specs.declared.counts.Passed.the-variants as P
-use Rattle.tree.specs.Answers.{cursor, Gives, Ends, countsOf, Counting, passedBy, Passes}
-use Rattle.tree.proofs.Chain.{reads, ends-number, ends-place, ends-tail, deep-ends, deep-halt}
-use Rattle.tree.proofs.Fields.{goes, getD-past}
+use Rattle.fields.specs.declared.number.Read.{Read}
+use Rattle.fields.specs.declared.number.Read.the-variants.{Number, Refused}
+use Rattle.fields.specs.declared.counts.Counts as C
+use Rattle.fields.specs.declared.counts.Counted.{Counted}
+use Rattle.fields.specs.declared.counts.Counted.the-variants.{Are, TooMany}
+use Rattle.fields.specs.declared.counts.Passed.{Passed}
+use Rattle.fields.specs.declared.counts.Passed.the-variants.{To}
+use Rattle.fields.specs.declared.counts.Passed.the-variants as P
+use Rattle.fields.specs.Answers.{cursor, Gives, Ends, countsOf, Counting, passedBy, Passes}
+use Rattle.fields.proofs.Chain.{reads, ends-number, ends-place, ends-tail, deep-ends, deep-halt}
+use Rattle.fields.proofs.Fields.{goes, getD-past}
 use Rattle.tree.proofs.Nodes.{up}
-use Rattle.tree.proofs.Counting.{pass-end, pass-tail, pass-call, pass-halt, pass-part, pass-stop, pass-ret, either-stop, either-none, either-some, count-stop, count-full, count-in}
+use Rattle.fields.proofs.Counting.{pass-end, pass-tail, pass-call, pass-halt, pass-part, pass-stop, pass-ret, either-stop, either-none, either-some, count-stop, count-full, count-in}
 
 -- a table's entry from the last one on, where the default is the last one too
 pub from-last : {A : Type 0} (l : List A) (n : ℕ) (d : A) → getD l n d ≡ d → length l ≤ n + 1 → (k : ℕ) → n ≤ k → getD l k d ≡ d

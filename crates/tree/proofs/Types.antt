@@ -12,11 +12,11 @@ use borrow.Author.Tests.{eq-eqb, ne-eqb, eqb-true, eqb-false}
 use Rattle.penne.specs.Reader.{Reader, such, below, num}
 use Rattle.penne.specs.Tree.{Spot, Ty, Ident, array, arrayWithNamedLength, arraylike, struct, word, unresolved, pointer, view}
 use Rattle.penne.specs.Read.{ident, readTy, tyOf, TyKind, tyKinds, kPlain, kArray, kNamedLength, kArraylike, kStruct, kWord, kUnresolved, kNameless, kPointer, kView}
-use Rattle.tree.specs.declared.number.Read.{Read}
-use Rattle.tree.specs.declared.number.Read.the-variants.{Number, Refused}
-use Rattle.tree.specs.Answers.{Gives, Reads, Ends}
-use Rattle.tree.proofs.Chain.{test-halt, test-passed, test-failed, reads, ends-number, ends-ret, ends-call, ends-halt, ends-tail, ends-read, ends-same, deep-ends, deep-halt}
-use Rattle.tree.proofs.Fields.{getD-past}
+use Rattle.fields.specs.declared.number.Read.{Read}
+use Rattle.fields.specs.declared.number.Read.the-variants.{Number, Refused}
+use Rattle.fields.specs.Answers.{Gives, Reads, Ends}
+use Rattle.fields.proofs.Chain.{test-halt, test-passed, test-failed, reads, ends-number, ends-ret, ends-call, ends-halt, ends-tail, ends-read, ends-same, deep-ends, deep-halt}
+use Rattle.fields.proofs.Fields.{getD-past}
 
 -- THE KIND
 

@@ -7,11 +7,11 @@ use Prim.Native.Nat.{ℕ}
 use native.Mathlib.Omega.{arith}
 use Rattle.penne.specs.Reader.{Counts, Cur, Got, got, refused, Reader, nothing}
 use Rattle.penne.specs.Tree.{Spot, Decl}
-use Rattle.tree.specs.declared.number.Read.{Read}
-use Rattle.tree.specs.declared.number.Read.the-variants.{Number, Refused}
+use Rattle.fields.specs.declared.number.Read.{Read}
+use Rattle.fields.specs.declared.number.Read.the-variants.{Number, Refused}
 use Rattle.tree.specs.declared.Verdict.{Verdict}
 use Rattle.tree.specs.declared.Verdict.the-variants as W
-use Rattle.tree.specs.Answers.{cursor, numberOf, endOf, Gives, Reads, Ends}
+use Rattle.fields.specs.Answers.{cursor, numberOf, endOf, Gives, Reads, Ends}
 use Rattle.tree.specs.Script.{verdictOf, refusal}
 
 same-verdict : (r r′ : Verdict) → verdictOf r ≡ verdictOf r′ → r ≡ r′

@@ -5,12 +5,12 @@ use mathlib.Core.Bool.{Bool, true}
 use mathlib.Core.List.{List}
 use lib.ListN.{length, getD}
 use Rattle.penne.specs.Read.{readDecl}
-use Rattle.tree.specs.declared.counts.Counts as C
-use Rattle.tree.specs.declared.counts.Passed.the-variants.{To}
+use Rattle.fields.specs.declared.counts.Counts as C
+use Rattle.fields.specs.declared.counts.Passed.the-variants.{To}
 use Rattle.tree.specs.declared.script.Layout.{Layout}
 use Rattle.tree.specs.declared.script.Laid.{Laid}
 use Rattle.tree.specs.declared.script.Laid.the-variants as L
-use Rattle.tree.specs.Answers.{Passes}
+use Rattle.fields.specs.Answers.{Passes}
 
 -- four words from i on, as counts
 abbrev pub countsIn : List ℕ → (i : ℕ) → C.Counts

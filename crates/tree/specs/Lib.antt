@@ -1,4 +1,2 @@
-pub mod Answers
-pub mod Names
 pub mod Script
 pub mod Ends

@@ -9,15 +9,15 @@ use lib.ListN.{length}
 use Rattle.penne.specs.Reader.{Counts, Cur, Got, got, refused, Reader, _>>=_, ret, num, below, many, each, nothing}
 use Rattle.penne.specs.Tree.{Spot, Decl, Tree}
 use Rattle.penne.specs.Read.{DeclKind, kConstant, kFunction, kFunctionHead, kStructure, kImport, kBadDecl, readDecl, readNames, readTree, decode, incoming, answered}
-use Rattle.tree.specs.declared.number.Read.{Read}
-use Rattle.tree.specs.declared.number.Read.the-variants as R
+use Rattle.fields.specs.declared.number.Read.{Read}
+use Rattle.fields.specs.declared.number.Read.the-variants as R
 use Rattle.tree.specs.declared.script.Layout.{Layout}
 use Rattle.tree.specs.declared.script.Laid.{Laid}
 use Rattle.tree.specs.declared.script.Laid.the-variants as L
 use Rattle.tree.specs.declared.Verdict.{Verdict}
 use Rattle.tree.specs.declared.Verdict.the-variants as W
-use Rattle.tree.specs.Answers.{cursor, Ends, Skips}
-use Rattle.tree.specs.Names.{namesFrom}
+use Rattle.fields.specs.Answers.{cursor, Ends, Skips}
+use Rattle.fields.specs.Names.{namesFrom}
 
 -- THE VERDICT
 

@@ -1,26 +1,26 @@
 // Declarations. They stand at nesting 1, so that 63 levels are left below them.
-use super::counts::Counted;
-use super::counts::Counts;
-use super::counts::Passed;
-use super::counts::count;
-use super::counts::declaration_counts;
-use super::counts::entry;
-use super::counts::pass;
-use super::field::bytes;
-use super::field::past_identifier;
-use super::field::two_places;
 use super::node::expression;
-use super::number::Read;
-use super::number::below;
-use super::number::number;
-use super::poison::maybe_identifier;
-use super::poison::poison;
 use super::statement::maybe_body;
 use super::value_type::maybe_type;
+use fields::counts::Counted;
+use fields::counts::Counts;
+use fields::counts::Passed;
+use fields::counts::count;
+use fields::counts::declaration_counts;
+use fields::counts::entry;
+use fields::counts::pass;
+use fields::field::bytes;
+use fields::field::past_identifier;
+use fields::field::two_places;
+use fields::number::Read;
+use fields::number::below;
+use fields::number::number;
+use fields::poison::maybe_identifier;
+use fields::poison::poison;
 ghost use lib.ListN.{getD};
 ghost use Rattle.penne.specs.Reader.{listed};
 ghost use Rattle.penne.specs.Read.{readDecl, declOf, declKinds, kBadDecl, readConstant, readFunction, readFunctionHead, readStructure, readImport, readParam};
-ghost use Rattle.tree.specs.Answers.{Ends, Skips, Passes};
+ghost use Rattle.fields.specs.Answers.{Ends, Skips, Passes};
 
 pub fn declaration(tree: &[u8], names: u32, counts: Counts, at: usize) -> Passed
     ensures { λ r. ⌜ Passes readDecl (now (tree .entry)) names counts at r ⌝ }

@@ -1,14 +1,14 @@
 // Where declarations end, noted by the first reading, so that the passes need not read a declaration again to find its end.
 // A row has ten words: where a declaration begins, what is counted before it, what is counted behind it, and where it ends, which is 0 where nothing is noted. A row is believed only where it tells of the very declaration that is asked for: so which row is asked for, and how many there are, matters to the speed alone.
-use super::counts::Counts;
-use super::counts::Passed;
 use super::declaration::declaration;
+use fields::counts::Counts;
+use fields::counts::Passed;
 use memory::words::set_word;
 use memory::words::word;
 ghost use mathlib.Core.Path.{_≡_};
 ghost use Prim.Native.Nat.{_+_};
 ghost use Rattle.penne.specs.Read.{readDecl};
-ghost use Rattle.tree.specs.Answers.{Passes};
+ghost use Rattle.fields.specs.Answers.{Passes};
 ghost use Rattle.tree.specs.Ends.{countsIn, Known, Tells, Same, Writes, Notes};
 
 // 384 rows: as many as there can be containers and functions.

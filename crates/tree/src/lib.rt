@@ -1,17 +1,12 @@
 // The script tree, read and not kept: where each part ends, or the refusal that document 01's table gives.
-pub mod number; // numbers, and numbers below a limit
-pub mod field; // names, identifiers, bytes, runs of places
-pub mod poison; // poisons, by the table of their fields
 pub mod value_type; // types
 pub mod node; // expressions, references, steps
-pub mod counts; // what row 8 counts
 pub mod statement; // statements and bodies
 pub mod declaration; // declarations
-pub mod name_table; // the table of names, and parts of the tree compared
 pub mod ends; // where declarations end, noted once
 pub mod script; // names, declarations and depths together
 
-use number::Read;
+use fields::number::Read;
 use script::Laid;
 use script::answered_depths;
 use script::incoming_depths;

@@ -1,23 +1,23 @@
 // Expressions, references and steps, which hold one another. `left` is how many levels of nesting are left.
-use super::field::bytes;
-use super::field::operator;
-use super::field::past_identifier;
-use super::field::raw;
-use super::field::two_places;
-use super::number::Read;
-use super::number::below;
-use super::number::number;
-use super::poison::maybe_identifier;
-use super::poison::poison;
 use super::value_type::carried;
 use super::value_type::maybe_type;
 use super::value_type::value_type;
+use fields::field::bytes;
+use fields::field::operator;
+use fields::field::past_identifier;
+use fields::field::raw;
+use fields::field::two_places;
+use fields::number::Read;
+use fields::number::below;
+use fields::number::number;
+use fields::poison::maybe_identifier;
+use fields::poison::poison;
 ghost use mathlib.Core.Bool.{false};
 ghost use lib.ListN.{getD};
 ghost use Rattle.penne.specs.Tree.{expr, ref, step, signed, bits};
 ghost use Rattle.penne.specs.Reader.{listed};
 ghost use Rattle.penne.specs.Read.{option, read, restOf, exprOf, exprKinds, kBadExpr, readTy, itemOf, stepOf, readBinary, readUnary, readBoolean, readInteger, readString, readArrayLiteral, readStructural, readParenthesized, readDeref, readBitCast, readTypeCast, readLengthOfArray, readSizeOf, readFunctionCall};
-ghost use Rattle.tree.specs.Answers.{Ends, Skips};
+ghost use Rattle.fields.specs.Answers.{Ends, Skips};
 
 pub fn expression(tree: &[u8], names: u32, at: usize, left: u32) -> Read
     ensures { λ r. ⌜ Ends (read left expr) (now (tree .entry)) names at r ⌝ }

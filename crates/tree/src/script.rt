@@ -1,17 +1,17 @@
 // The whole tree: names, declarations, depths.
-use super::counts::Counts;
-use super::counts::Passed;
 use super::declaration::declaration;
 use super::ends::note;
-use super::name_table::name_table;
-use super::number::Read;
-use super::number::below;
-use super::number::number;
+use fields::counts::Counts;
+use fields::counts::Passed;
+use fields::name_table::name_table;
+use fields::number::Read;
+use fields::number::below;
+use fields::number::number;
 ghost use mathlib.Core.Path.{_≡_};
 ghost use lib.ListN.{getD};
 ghost use Rattle.penne.specs.Reader.{many};
 ghost use Rattle.penne.specs.Read.{readDecl, declKinds, kBadDecl};
-ghost use Rattle.tree.specs.Answers.{Gives, Passes};
+ghost use Rattle.fields.specs.Answers.{Gives, Passes};
 ghost use Rattle.tree.specs.Ends.{Known, Remembers};
 ghost use Rattle.tree.specs.Script.{Lays, notLaidBy, depthBy, IncomingDepths, AnsweredDepths};
 

@@ -1,26 +1,26 @@
 // Statements and bodies. `left` is how many levels of nesting are left.
-use super::counts::Counted;
-use super::counts::Counts;
-use super::counts::Passed;
-use super::counts::count;
-use super::counts::pass;
-use super::counts::statement_counts;
-use super::field::operator;
-use super::field::past_identifier;
 use super::node::expression;
 use super::node::expressions;
 use super::node::option_expression;
 use super::node::reference;
-use super::number::Read;
-use super::number::below;
-use super::number::number;
-use super::poison::poison;
 use super::value_type::carried;
+use fields::counts::Counted;
+use fields::counts::Counts;
+use fields::counts::Passed;
+use fields::counts::count;
+use fields::counts::pass;
+use fields::counts::statement_counts;
+use fields::field::operator;
+use fields::field::past_identifier;
+use fields::number::Read;
+use fields::number::below;
+use fields::number::number;
+use fields::poison::poison;
 ghost use lib.ListN.{getD};
 ghost use Rattle.penne.specs.Tree.{goto, label};
 ghost use Rattle.penne.specs.Reader.{listed};
 ghost use Rattle.penne.specs.Read.{maybe, readStmt, stmtOf, stmtKinds, kBadStmt, readDeclaration, readAssignment, readMethodCall, readJump, readIf, readBlock, elseOf, readBody};
-ghost use Rattle.tree.specs.Answers.{Ends, Passes};
+ghost use Rattle.fields.specs.Answers.{Ends, Passes};
 
 pub fn stmt(tree: &[u8], names: u32, counts: Counts, at: usize, left: u32) -> Passed
     ensures { λ r. ⌜ Passes (readStmt left) (now (tree .entry)) names counts at r ⌝ }

@@ -1,14 +1,14 @@
 // Types. `own` is set in a constant's or member's own type, as far as kinds 14 to 19 reach: there kind 23 is refused.
 // `left` is how many levels of nesting are left.
-use super::field::past_identifier;
-use super::number::Read;
-use super::number::below;
-use super::number::number;
-use super::poison::poison;
+use fields::field::past_identifier;
+use fields::number::Read;
+use fields::number::below;
+use fields::number::number;
+use fields::poison::poison;
 ghost use mathlib.Core.Bool.{false};
 ghost use lib.ListN.{getD};
 ghost use Rattle.penne.specs.Read.{readTy, tyOf, tyKinds, kPlain, kArray, kNamedLength, kWord, maybe, option};
-ghost use Rattle.tree.specs.Answers.{Ends};
+ghost use Rattle.fields.specs.Answers.{Ends};
 
 pub fn value_type(tree: &[u8], names: u32, own: bool, at: usize, left: u32) -> Read
     ensures { λ r. ⌜ Ends (readTy left own) (now (tree .entry)) names at r ⌝ }

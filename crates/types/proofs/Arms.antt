@@ -17,10 +17,10 @@ use Rattle.penne.specs.State as S
 use Rattle.penne.specs.Scopes.{Analyzer, Pass, useConstant, useStruct}
 use Rattle.penne.specs.Variables.{analyzeType}
 use Rattle.penne.proofs.IdsPass.{still-type, still-constant}
-use Rattle.tree.specs.declared.number.Read.{Read}
-use Rattle.tree.specs.declared.number.Read.the-variants.{Number, Refused}
-use Rattle.tree.specs.Answers.{cursor, numberOf, Gives}
-use Rattle.tree.proofs.Fields.{getD-past}
+use Rattle.fields.specs.declared.number.Read.{Read}
+use Rattle.fields.specs.declared.number.Read.the-variants.{Number, Refused}
+use Rattle.fields.specs.Answers.{cursor, numberOf, Gives}
+use Rattle.fields.proofs.Fields.{getD-past}
 use Rattle.tree.proofs.Types.{run}
 use Rattle.answer.specs.declared.wrote.Wrote.{Wrote}
 use Rattle.answer.specs.Out.{Put}

@@ -11,9 +11,9 @@ use Rattle.penne.specs.Write.{numB, tyB, maybeB}
 use Rattle.penne.specs.State as S
 use Rattle.penne.specs.Scopes.{Analyzer, onContainment, withContainment}
 use Rattle.penne.specs.Variables.{analyzeType, analyzeMaybeType, foundMaybe}
-use Rattle.tree.specs.declared.number.Read.{Read}
-use Rattle.tree.specs.declared.number.Read.the-variants.{Number, Refused}
-use Rattle.tree.specs.Answers.{cursor, countsOf, Gives}
+use Rattle.fields.specs.declared.number.Read.{Read}
+use Rattle.fields.specs.declared.number.Read.the-variants.{Number, Refused}
+use Rattle.fields.specs.Answers.{cursor, countsOf, Gives}
 use Rattle.answer.specs.declared.wrote.Wrote.{Wrote}
 use Rattle.answer.specs.Out.{Put}
 use Rattle.containers.specs.Table.{at}

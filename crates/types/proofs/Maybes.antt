@@ -11,9 +11,9 @@ use Rattle.penne.specs.Read.{maybe, option, readPoison}
 use Rattle.penne.specs.Write.{numB, tyB, maybeB, optionB, carriedB}
 use Rattle.penne.specs.State as S
 use Rattle.penne.specs.Variables.{analyzeType, analyzeMaybeType, analyzeOption}
-use Rattle.tree.specs.declared.number.Read.{Read}
-use Rattle.tree.specs.declared.number.Read.the-variants.{Number, Refused}
-use Rattle.tree.specs.Answers.{cursor, countsOf, numberOf, Gives}
+use Rattle.fields.specs.declared.number.Read.{Read}
+use Rattle.fields.specs.declared.number.Read.the-variants.{Number, Refused}
+use Rattle.fields.specs.Answers.{cursor, countsOf, numberOf, Gives}
 use Rattle.answer.specs.declared.wrote.Wrote.{Wrote}
 use Rattle.answer.specs.Out.{Put}
 use Rattle.walk.specs.declared.state.Walk.{Walk}

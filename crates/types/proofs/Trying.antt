@@ -10,12 +10,12 @@ use Rattle.penne.specs.Read.{ident}
 use Rattle.penne.specs.Write.{numB, poisonB}
 use Rattle.penne.specs.State as S
 use Rattle.penne.specs.Scopes.{Analyzer, Pass}
-use Rattle.tree.specs.declared.number.Read.{Read}
-use Rattle.tree.specs.declared.number.Read.the-variants.{Number, Refused}
-use Rattle.tree.specs.declared.field.Identifier.{Identifier}
-use Rattle.tree.specs.declared.field.Identified.{Identified}
-use Rattle.tree.specs.declared.field.Identified.the-variants as I
-use Rattle.tree.specs.Answers.{cursor, countsOf, numberOf, identOf, identifiedOf, Gives, Identifies}
+use Rattle.fields.specs.declared.number.Read.{Read}
+use Rattle.fields.specs.declared.number.Read.the-variants.{Number, Refused}
+use Rattle.fields.specs.declared.field.Identifier.{Identifier}
+use Rattle.fields.specs.declared.field.Identified.{Identified}
+use Rattle.fields.specs.declared.field.Identified.the-variants as I
+use Rattle.fields.specs.Answers.{cursor, countsOf, numberOf, identOf, identifiedOf, Gives, Identifies}
 use Rattle.answer.specs.declared.wrote.Wrote.{Wrote}
 use Rattle.answer.specs.Out.{Put}
 use Rattle.walk.specs.declared.state.Walk.{Walk}

@@ -1,10 +1,10 @@
 // analyze_type. A type is written whole, or nothing of it is, and its poison is told.
 use answer::number::then_number;
-use tree::field::Identified;
-use tree::field::read_identifier;
-use tree::number::Read;
-use tree::number::below;
-use tree::number::number;
+use fields::field::Identified;
+use fields::field::read_identifier;
+use fields::number::Read;
+use fields::number::below;
+use fields::number::number;
 use walk::edges::Edge;
 use walk::edges::Holder;
 use walk::edges::found_container;

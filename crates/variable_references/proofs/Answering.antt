@@ -19,9 +19,9 @@ use Rattle.penne.specs.Scopes.{Analyzer, Pass, begin}
 use Rattle.penne.specs.Variables.{predeclare, analyzeDecl, inTurn, analyzeAll, depthOf, postanalyzed}
 use Rattle.penne.specs.Labels.{Labels, labelsDecl, labelsDecls, labelReferences}
 use Rattle.penne.specs.Scoper.{analyze, answeredTree, skipList, words}
-use Rattle.tree.specs.declared.counts.Counts as C
+use Rattle.fields.specs.declared.counts.Counts as C
 use Rattle.tree.specs.declared.script.Layout.{Layout}
-use Rattle.tree.specs.Answers.{cursor, countsOf}
+use Rattle.fields.specs.Answers.{cursor, countsOf}
 use Rattle.tree.specs.Script.{LaidOut, start}
 use Rattle.tree.proofs.Scripts.{many-length}
 use Rattle.answer.specs.declared.wrote.Wrote.{Wrote}

@@ -18,12 +18,12 @@ use Rattle.penne.specs.State as S
 use Rattle.penne.specs.Scopes.{Analyzer, unlessDuplicate}
 use Rattle.penne.specs.Variables.{declaredAs, analyzeDecl}
 use Rattle.penne.proofs.IdsPass.{still-decl}
-use Rattle.tree.specs.declared.number.Read.the-variants.{Number}
-use Rattle.tree.specs.declared.counts.Counts as K
-use Rattle.tree.specs.declared.counts.Passed.{Passed}
-use Rattle.tree.specs.declared.counts.Passed.the-variants as Q
-use Rattle.tree.specs.declared.field.Identifier.{Identifier}
-use Rattle.tree.specs.Answers.{cursor, countsOf, identOf, numberOf, passedOf, Gives, Passes, poisonNames, poisonPlaces}
+use Rattle.fields.specs.declared.number.Read.the-variants.{Number}
+use Rattle.fields.specs.declared.counts.Counts as K
+use Rattle.fields.specs.declared.counts.Passed.{Passed}
+use Rattle.fields.specs.declared.counts.Passed.the-variants as Q
+use Rattle.fields.specs.declared.field.Identifier.{Identifier}
+use Rattle.fields.specs.Answers.{cursor, countsOf, identOf, numberOf, passedOf, Gives, Passes, poisonNames, poisonPlaces}
 use Rattle.tree.proofs.Statements as T
 use Rattle.answer.specs.declared.wrote.Wrote.{Wrote}
 use Rattle.answer.specs.Out.{Put}

@@ -10,10 +10,10 @@ use borrow.Author.Tests.{ltb-true, leb-true}
 use Rattle.penne.specs.Reader.{Counts, Cur, Got, got, refused, Reader, _>>=_, ret, such, num, below, plus, fits, counted, counting}
 use Rattle.penne.specs.Tree.{Spot, Ident, Maybe, Ty, Expr, Param, Body, Poison, Decl, constant, function, functionHead, structure, import, badDecl}
 use Rattle.penne.specs.Read.{DeclKind, readDecl, declHead, declOf, declCounts, declKinds, kBadDecl, readConstant, readFunction, readFunctionHead, readStructure, readImport}
-use Rattle.tree.specs.declared.number.Read.{Read}
-use Rattle.tree.specs.declared.number.Read.the-variants.{Number, Refused}
-use Rattle.tree.specs.Answers.{cursor, numberOf, Gives}
-use Rattle.tree.proofs.Chain.{reads}
+use Rattle.fields.specs.declared.number.Read.{Read}
+use Rattle.fields.specs.declared.number.Read.the-variants.{Number, Refused}
+use Rattle.fields.specs.Answers.{cursor, numberOf, Gives}
+use Rattle.fields.proofs.Chain.{reads}
 use Rattle.containers.proofs.Lists.{and-true}
 use Rattle.walk.specs.Walking.{Leads}
 use Rattle.walk.proofs.Leading.{never, bind-got, such-got, leads-bind, leads-counting, leads-got}

@@ -19,8 +19,8 @@ use Rattle.penne.specs.Scopes.{Analyzer, withContainment, unlessDuplicate}
 use Rattle.penne.specs.Variables.{declaredAs, analyzeNode, analyzeMaybeType, foundMaybe, inConstexprOf, analyzeConstexpr, analyzeDecl}
 use Rattle.penne.proofs.IdsPass.{still-node}
 use Rattle.penne.proofs.Booleans.{both-true}
-use Rattle.tree.specs.declared.field.Identifier.{Identifier}
-use Rattle.tree.specs.Answers.{cursor, countsOf, identOf}
+use Rattle.fields.specs.declared.field.Identifier.{Identifier}
+use Rattle.fields.specs.Answers.{cursor, countsOf, identOf}
 use Rattle.answer.specs.Parts.{renumbered, identifierB}
 use Rattle.containers.specs.declared.containers.Declared.{Declared}
 use Rattle.containers.specs.Table.{at, idAt}

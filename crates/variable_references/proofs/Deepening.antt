@@ -17,13 +17,13 @@ use Rattle.penne.specs.Write.{numB, eachB}
 use Rattle.penne.specs.Find.{first, firstNamed, keep}
 use Rattle.penne.specs.Containers.{Container, Containment, identifierOf, constants, structures, idOf, obtainContainerDepth}
 use Rattle.penne.proofs.Booleans.{some-same, none-some}
-use Rattle.tree.specs.declared.counts.Counts as C
-use Rattle.tree.specs.declared.counts.Passed.{Passed}
-use Rattle.tree.specs.declared.counts.Passed.the-variants as P
-use Rattle.tree.specs.declared.number.Read.{Read}
-use Rattle.tree.specs.declared.number.Read.the-variants.{Number, Refused}
+use Rattle.fields.specs.declared.counts.Counts as C
+use Rattle.fields.specs.declared.counts.Passed.{Passed}
+use Rattle.fields.specs.declared.counts.Passed.the-variants as P
+use Rattle.fields.specs.declared.number.Read.{Read}
+use Rattle.fields.specs.declared.number.Read.the-variants.{Number, Refused}
 use Rattle.tree.specs.declared.script.Layout.{Layout}
-use Rattle.tree.specs.Answers.{cursor, countsOf, passedOf, Gives, Passes}
+use Rattle.fields.specs.Answers.{cursor, countsOf, passedOf, Gives, Passes}
 use Rattle.tree.specs.Script.{LaidOut}
 use Rattle.tree.proofs.Scripts.{many-case}
 use Rattle.answer.specs.declared.wrote.Wrote.{Wrote}

@@ -16,8 +16,8 @@ use Rattle.penne.specs.Containers.{constants, structures}
 use Rattle.penne.specs.State as S
 use Rattle.penne.specs.Scopes.{Analyzer, unlessDuplicate}
 use Rattle.penne.specs.Variables.{declaredAs, analyzeDecl}
-use Rattle.tree.specs.declared.field.Identifier.{Identifier}
-use Rattle.tree.specs.Answers.{poisonNames, poisonPlaces}
+use Rattle.fields.specs.declared.field.Identifier.{Identifier}
+use Rattle.fields.specs.Answers.{poisonNames, poisonPlaces}
 use Rattle.containers.specs.Table.{idAt, kindOf}
 use Rattle.containers.specs.Calls.{ofKind}
 use Rattle.containers.specs.Functions.{functionAt}

@@ -12,19 +12,19 @@ use Rattle.penne.specs.Write.{numB, placeB, poisonB, identB, maybeB}
 use Rattle.penne.specs.State as S
 use Rattle.penne.specs.Scopes.{declareVariable}
 use Rattle.penne.specs.Variables.{declareMaybe}
-use Rattle.tree.specs.declared.number.Read.{Read}
-use Rattle.tree.specs.declared.number.Read.the-variants.{Number, Refused}
-use Rattle.tree.specs.declared.field.Identifier.{Identifier}
-use Rattle.tree.specs.declared.field.Identified.{Identified}
-use Rattle.tree.specs.declared.field.Identified.the-variants as I
-use Rattle.tree.specs.declared.counts.Counts as K
-use Rattle.tree.specs.declared.counts.Counted as C
-use Rattle.tree.specs.declared.counts.Counted.the-variants.{Are, TooMany}
-use Rattle.tree.specs.declared.counts.Passed.the-variants as Q
-use Rattle.tree.specs.Answers.{cursor, countsOf, identOf, passedOf, passedBy, Gives, Identifies, Counting, Passes, poisonNames, poisonPlaces}
-use Rattle.tree.proofs.Chain.{reads}
-use Rattle.tree.proofs.Fields.{goes}
-use Rattle.tree.proofs.Counting.{fitted}
+use Rattle.fields.specs.declared.number.Read.{Read}
+use Rattle.fields.specs.declared.number.Read.the-variants.{Number, Refused}
+use Rattle.fields.specs.declared.field.Identifier.{Identifier}
+use Rattle.fields.specs.declared.field.Identified.{Identified}
+use Rattle.fields.specs.declared.field.Identified.the-variants as I
+use Rattle.fields.specs.declared.counts.Counts as K
+use Rattle.fields.specs.declared.counts.Counted as C
+use Rattle.fields.specs.declared.counts.Counted.the-variants.{Are, TooMany}
+use Rattle.fields.specs.declared.counts.Passed.the-variants as Q
+use Rattle.fields.specs.Answers.{cursor, countsOf, identOf, passedOf, passedBy, Gives, Identifies, Counting, Passes, poisonNames, poisonPlaces}
+use Rattle.fields.proofs.Chain.{reads}
+use Rattle.fields.proofs.Fields.{goes}
+use Rattle.fields.proofs.Counting.{fitted}
 use Rattle.tree.proofs.Statements.{entry-unread, entry-many}
 use Rattle.answer.specs.declared.wrote.Wrote.{Wrote}
 use Rattle.answer.specs.Out.{Put}

@@ -18,7 +18,7 @@ use Rattle.penne.specs.Scopes.{Analyzer, withStack, inNewScope, unlessDuplicate
 use Rattle.penne.specs.Variables.{declaredAs, inTurn, analyzeParam, analyzeParamsAndBody, analyzeBody, analyzeMaybeType, analyzeDecl, functionOf, functionHeadOf, withMain, isMain}
 use Rattle.penne.proofs.IdsPass.{opened, grown-params, grown-param, grown-function}
 use Rattle.penne.proofs.Booleans.{both-true}
-use Rattle.tree.specs.declared.field.Identifier.{Identifier}
+use Rattle.fields.specs.declared.field.Identifier.{Identifier}
 use Rattle.answer.specs.Parts.{renumbered}
 use Rattle.containers.specs.declared.containers.Declared.{Declared}
 use Rattle.containers.specs.Functions.{functionAt}

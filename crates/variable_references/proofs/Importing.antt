@@ -6,9 +6,9 @@ use Rattle.penne.specs.Reader.{Counts, Cur, got, _>>=_, ret, num, raw, bytes}
 use Rattle.penne.specs.Tree.{Spot, Decl, import}
 use Rattle.penne.specs.Read.{place, readImport}
 use Rattle.penne.specs.Write.{numB, placeB, bytesB, declB}
-use Rattle.tree.specs.declared.number.Read.{Read}
-use Rattle.tree.specs.declared.number.Read.the-variants.{Number, Refused}
-use Rattle.tree.specs.Answers.{cursor, countsOf, numberOf, endOf, Gives, Skips}
+use Rattle.fields.specs.declared.number.Read.{Read}
+use Rattle.fields.specs.declared.number.Read.the-variants.{Number, Refused}
+use Rattle.fields.specs.Answers.{cursor, countsOf, numberOf, endOf, Gives, Skips}
 use Rattle.tree.proofs.Scripts.{forget-got}
 use Rattle.answer.specs.declared.wrote.Wrote.{Wrote}
 use Rattle.answer.specs.Out.{Put}

@@ -13,12 +13,12 @@ use Rattle.penne.specs.Tree.{Spot, Ident}
 use Rattle.penne.specs.Read.{declKinds, kBadDecl, declCounts, readDecl}
 use Rattle.penne.specs.Write.{placeB}
 use Rattle.penne.specs.Find.{firstNamed}
-use Rattle.tree.specs.declared.counts.Counts as K
-use Rattle.tree.specs.declared.counts.Counted as C
-use Rattle.tree.specs.declared.counts.Counted.the-variants.{Are, TooMany}
-use Rattle.tree.specs.declared.counts.Passed.the-variants as Q
-use Rattle.tree.specs.Answers.{cursor, countsOf, passedOf, Counting, Passes}
-use Rattle.tree.proofs.Counting.{fitted}
+use Rattle.fields.specs.declared.counts.Counts as K
+use Rattle.fields.specs.declared.counts.Counted as C
+use Rattle.fields.specs.declared.counts.Counted.the-variants.{Are, TooMany}
+use Rattle.fields.specs.declared.counts.Passed.the-variants as Q
+use Rattle.fields.specs.Answers.{cursor, countsOf, passedOf, Counting, Passes}
+use Rattle.fields.proofs.Counting.{fitted}
 use Rattle.tree.proofs.Statements as T
 use Rattle.answer.specs.Parts.{renumbered}
 use Rattle.containers.specs.Table.{kindOf}

@@ -11,12 +11,12 @@ use borrow.Author.Tests.{ltb-true, leb-true}
 use Rattle.penne.specs.Reader.{Counts, Cur, Got, got, refused, Reader, _>>=_, ret, such, num, raw, moved, nothing}
 use Rattle.penne.specs.Read.{readNames, amongNames}
 use Rattle.penne.specs.Write.{numB, bytesB, listB, eachB}
-use Rattle.tree.specs.declared.number.Read.{Read}
-use Rattle.tree.specs.declared.number.Read.the-variants.{Number, Refused}
+use Rattle.fields.specs.declared.number.Read.{Read}
+use Rattle.fields.specs.declared.number.Read.the-variants.{Number, Refused}
 use Rattle.tree.specs.declared.script.Layout.{Layout}
-use Rattle.tree.specs.Answers.{cursor, numberOf, Gives}
+use Rattle.fields.specs.Answers.{cursor, numberOf, Gives}
 use Rattle.tree.specs.Script.{LaidOut, start}
-use Rattle.tree.proofs.Names.{refused-not}
+use Rattle.fields.proofs.Names.{refused-not}
 use Rattle.answer.specs.declared.wrote.Wrote.{Wrote}
 use Rattle.answer.specs.declared.wrote.Wrote.the-variants.{Bytes}
 use Rattle.answer.specs.Out.{Put}

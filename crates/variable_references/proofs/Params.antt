@@ -15,10 +15,10 @@ use Rattle.penne.specs.Containers.{Container}
 use Rattle.penne.specs.Scopes.{Analyzer, Pass}
 use Rattle.penne.specs.Variables.{analyzeMaybeType, declareMaybe, inTurn, analyzeParam, foundMaybe, analyzeWellfoundedness, analyzeMember}
 use Rattle.penne.proofs.IdsPass.{still-maybe, still-found, grown-declare}
-use Rattle.tree.specs.declared.number.Read.{Read}
-use Rattle.tree.specs.declared.number.Read.the-variants.{Number, Refused}
-use Rattle.tree.specs.Answers.{cursor, countsOf, Gives, poisonNames, poisonPlaces}
-use Rattle.tree.proofs.Chain.{reads}
+use Rattle.fields.specs.declared.number.Read.{Read}
+use Rattle.fields.specs.declared.number.Read.the-variants.{Number, Refused}
+use Rattle.fields.specs.Answers.{cursor, countsOf, Gives, poisonNames, poisonPlaces}
+use Rattle.fields.proofs.Chain.{reads}
 use Rattle.tree.proofs.Scripts.{many-length}
 use Rattle.answer.specs.declared.wrote.Wrote.{Wrote}
 use Rattle.answer.specs.Out.{Put}

@@ -8,13 +8,13 @@ use Rattle.penne.specs.Reader.{Counts, Cur, got, Reader, _>>=_, num, below}
 use Rattle.penne.specs.Tree.{Spot, Ident, Decl}
 use Rattle.penne.specs.Read.{place, ident, declOf, declKinds, kBadDecl, readConstant, readFunction, readFunctionHead, readStructure}
 use Rattle.penne.specs.Write.{numB, placeB}
-use Rattle.tree.specs.declared.number.Read.{Read}
-use Rattle.tree.specs.declared.number.Read.the-variants.{Number, Refused}
-use Rattle.tree.specs.declared.field.Identifier.{Identifier}
-use Rattle.tree.specs.declared.field.Identified.{Identified}
-use Rattle.tree.specs.declared.field.Identified.the-variants as I
-use Rattle.tree.specs.Answers.{cursor, numberOf, Gives, Skips, Identifies, twoPlaces}
-use Rattle.tree.proofs.Chain.{reads}
+use Rattle.fields.specs.declared.number.Read.{Read}
+use Rattle.fields.specs.declared.number.Read.the-variants.{Number, Refused}
+use Rattle.fields.specs.declared.field.Identifier.{Identifier}
+use Rattle.fields.specs.declared.field.Identified.{Identified}
+use Rattle.fields.specs.declared.field.Identified.the-variants as I
+use Rattle.fields.specs.Answers.{cursor, numberOf, Gives, Skips, Identifies, twoPlaces}
+use Rattle.fields.proofs.Chain.{reads}
 use Rattle.answer.specs.Parts.{renumbered}
 use Rattle.walk.specs.Walking.{Leads}
 use Rattle.walk.proofs.Leading.{leads-read, leads-unread, leads-place, leads-unplace, leads-places, leads-unplaces, leads-identified, leads-unidentified}

@@ -19,16 +19,16 @@ use Rattle.penne.specs.State as S
 use Rattle.penne.specs.Containers.{Container, Containment, idOf, pushContainer, withContainers}
 use Rattle.penne.specs.Scopes.{Analyzer, Scope, authoritative, nextId, withStack, withContainment, withFunctions, declareConstant, declareFunction, declareStruct, begin}
 use Rattle.penne.specs.Variables.{predeclare, inTurn}
-use Rattle.tree.specs.declared.counts.Counts as C
-use Rattle.tree.specs.declared.counts.Passed.{Passed}
-use Rattle.tree.specs.declared.counts.Passed.the-variants as P
-use Rattle.tree.specs.declared.field.Identifier.{Identifier}
-use Rattle.tree.specs.declared.number.Read.{Read}
-use Rattle.tree.specs.declared.number.Read.the-variants.{Number, Refused}
+use Rattle.fields.specs.declared.counts.Counts as C
+use Rattle.fields.specs.declared.counts.Passed.{Passed}
+use Rattle.fields.specs.declared.counts.Passed.the-variants as P
+use Rattle.fields.specs.declared.field.Identifier.{Identifier}
+use Rattle.fields.specs.declared.number.Read.{Read}
+use Rattle.fields.specs.declared.number.Read.the-variants.{Number, Refused}
 use Rattle.tree.specs.declared.script.Layout.{Layout}
-use Rattle.tree.specs.Answers.{cursor, countsOf, identOf, forget, passedOf, Gives, Passes}
+use Rattle.fields.specs.Answers.{cursor, countsOf, identOf, forget, passedOf, Gives, Passes}
 use Rattle.tree.specs.Script.{LaidOut}
-use Rattle.tree.proofs.Chain.{reads}
+use Rattle.fields.proofs.Chain.{reads}
 use Rattle.tree.proofs.Scripts.{many-case}
 use Rattle.containers.specs.Table.{at, idAt, kindOf, Holds}
 use Rattle.containers.specs.Calls.{Says, New, Pushes}

@@ -9,11 +9,11 @@ use Rattle.penne.specs.Tree.{Spot, Decl}
 use Rattle.penne.specs.Read.{readDecl}
 use Rattle.penne.specs.Write.{numB, eachB}
 use Rattle.penne.specs.Containers.{Container, Containment}
-use Rattle.tree.specs.declared.counts.Counts as C
-use Rattle.tree.specs.declared.counts.Passed.{Passed}
-use Rattle.tree.specs.declared.counts.Passed.the-variants as P
+use Rattle.fields.specs.declared.counts.Counts as C
+use Rattle.fields.specs.declared.counts.Passed.{Passed}
+use Rattle.fields.specs.declared.counts.Passed.the-variants as P
 use Rattle.tree.specs.declared.script.Layout.{Layout}
-use Rattle.tree.specs.Answers.{cursor, countsOf, passedOf, Passes}
+use Rattle.fields.specs.Answers.{cursor, countsOf, passedOf, Passes}
 use Rattle.tree.specs.Script.{LaidOut}
 use Rattle.tree.proofs.Scripts.{many-case}
 use Rattle.answer.specs.declared.wrote.Wrote.{Wrote}

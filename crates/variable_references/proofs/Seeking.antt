@@ -12,12 +12,12 @@ use Rattle.penne.specs.Reader.{Cur, got, Reader, _>>=_, ret, such, num, raw, no
 use Rattle.penne.specs.Read.{sameBytes, amongNames, readNames}
 use Rattle.penne.specs.Variables.{isMain}
 use Rattle.penne.proofs.Booleans.{true-false}
-use Rattle.tree.specs.declared.number.Read.{Read}
-use Rattle.tree.specs.declared.number.Read.the-variants.{Number, Refused}
+use Rattle.fields.specs.declared.number.Read.{Read}
+use Rattle.fields.specs.declared.number.Read.the-variants.{Number, Refused}
 use Rattle.tree.specs.declared.script.Layout.{Layout}
-use Rattle.tree.specs.Answers.{cursor, numberOf, Gives}
+use Rattle.fields.specs.Answers.{cursor, numberOf, Gives}
 use Rattle.tree.specs.Script.{LaidOut}
-use Rattle.tree.proofs.Names.{same-eq, refused-not}
+use Rattle.fields.proofs.Names.{same-eq, refused-not}
 use Rattle.walk.specs.Walking.{Input}
 use Rattle.walk.proofs.Leading.{never, same-value, bind-got, such-got}
 use Rattle.variable_references.specs.Stages.{MainName}

@@ -17,7 +17,7 @@ use Rattle.penne.specs.Scopes.{Analyzer, withStack, inNewScope, unlessDuplicate
 use Rattle.penne.specs.Variables.{declaredAs, inTurn, analyzeMember, analyzeMaybeType, analyzeDecl}
 use Rattle.penne.proofs.IdsPass.{opened, grown-params, grown-member}
 use Rattle.penne.proofs.Booleans.{both-true}
-use Rattle.tree.specs.declared.field.Identifier.{Identifier}
+use Rattle.fields.specs.declared.field.Identifier.{Identifier}
 use Rattle.answer.specs.Parts.{renumbered}
 use Rattle.containers.specs.declared.containers.Declared.{Declared}
 use Rattle.containers.specs.Table.{at, idAt}

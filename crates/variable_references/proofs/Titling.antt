@@ -12,10 +12,10 @@ use Rattle.penne.specs.Write.{declB}
 use Rattle.penne.specs.State as S
 use Rattle.penne.specs.Variables.{analyzeDecl}
 use Rattle.penne.proofs.Booleans.{and-true}
-use Rattle.tree.specs.declared.number.Read.{Read}
-use Rattle.tree.specs.declared.number.Read.the-variants.{Number, Refused}
-use Rattle.tree.specs.declared.counts.Passed.the-variants as Q
-use Rattle.tree.specs.Answers.{cursor, countsOf, passedOf, passedBy, Gives, Passes}
+use Rattle.fields.specs.declared.number.Read.{Read}
+use Rattle.fields.specs.declared.number.Read.the-variants.{Number, Refused}
+use Rattle.fields.specs.declared.counts.Passed.the-variants as Q
+use Rattle.fields.specs.Answers.{cursor, countsOf, passedOf, passedBy, Gives, Passes}
 use Rattle.tree.proofs.Statements as T
 use Rattle.label_references.specs.Marked.{markedDecl}
 use Rattle.walk.specs.declared.state.Walk.{Walk}

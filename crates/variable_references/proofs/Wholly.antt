@@ -26,7 +26,7 @@ use Rattle.penne.proofs.IdsRead.{declared-bytes}
 use Rattle.penne.proofs.IdsWhole.{ids-all}
 use Rattle.penne.proofs.Booleans.{both-true}
 use Rattle.tree.specs.declared.script.Layout.{Layout}
-use Rattle.tree.specs.Answers.{cursor}
+use Rattle.fields.specs.Answers.{cursor}
 use Rattle.tree.specs.Script.{LaidOut, start}
 use Rattle.walk.specs.declared.state.Script.{Script}
 use Rattle.label_references.specs.Outcomes.{outcomesDecls, labelsInDecls}

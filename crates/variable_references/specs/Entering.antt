@@ -12,7 +12,7 @@ use Rattle.penne.specs.Write.{placeB, identB, tyB, maybeB, listB, paramB}
 use Rattle.penne.specs.State as S
 use Rattle.penne.specs.Scopes.{Pass}
 use Rattle.penne.specs.Variables.{analyzeMaybeType, inTurn, declareMaybe, analyzeParam, analyzeMember}
-use Rattle.tree.specs.Answers.{poisonNames, poisonPlaces}
+use Rattle.fields.specs.Answers.{poisonNames, poisonPlaces}
 use Rattle.containers.specs.Table.{at}
 use Rattle.walk.specs.declared.state.Walk.{Walk}
 use Rattle.walk.specs.declared.edges.Holder.{Holder}

@@ -13,11 +13,11 @@ use Rattle.penne.specs.Write.{numB, placeB, poisonB, declB, paramB, eachB}
 use Rattle.penne.specs.Find.{firstNamed}
 use Rattle.penne.specs.Scopes.{Analyzer, Pass}
 use Rattle.penne.specs.Variables.{withMain}
-use Rattle.tree.specs.declared.number.Read.{Read}
-use Rattle.tree.specs.declared.number.Read.the-variants.{Number, Refused}
-use Rattle.tree.specs.declared.field.Identifier.{Identifier}
-use Rattle.tree.specs.declared.field.Identified.the-variants as I
-use Rattle.tree.specs.Answers.{cursor, countsOf, identOf, Gives, Reads, Skips, Identifies, twoPlaces}
+use Rattle.fields.specs.declared.number.Read.{Read}
+use Rattle.fields.specs.declared.number.Read.the-variants.{Number, Refused}
+use Rattle.fields.specs.declared.field.Identifier.{Identifier}
+use Rattle.fields.specs.declared.field.Identified.the-variants as I
+use Rattle.fields.specs.Answers.{cursor, countsOf, identOf, Gives, Reads, Skips, Identifies, twoPlaces}
 use Rattle.answer.specs.declared.wrote.Wrote.{Wrote}
 use Rattle.answer.specs.Parts.{renumbered}
 use Rattle.containers.specs.Table.{at, kindOf}

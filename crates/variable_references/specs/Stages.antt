@@ -14,10 +14,10 @@ use Rattle.penne.specs.Find.{firstNamed}
 use Rattle.penne.specs.Containers.{Container, Containment, constants, structures, obtainContainerDepth}
 use Rattle.penne.specs.Scopes.{Analyzer, begin}
 use Rattle.penne.specs.Variables.{predeclare, inTurn, isMain}
-use Rattle.tree.specs.declared.counts.Counts as C
-use Rattle.tree.specs.declared.field.Identifier.{Identifier}
+use Rattle.fields.specs.declared.counts.Counts as C
+use Rattle.fields.specs.declared.field.Identifier.{Identifier}
 use Rattle.tree.specs.declared.script.Layout.{Layout}
-use Rattle.tree.specs.Answers.{cursor, countsOf}
+use Rattle.fields.specs.Answers.{cursor, countsOf}
 use Rattle.tree.specs.Script.{LaidOut}
 use Rattle.answer.specs.declared.wrote.Wrote.{Wrote}
 use Rattle.answer.specs.declared.wrote.Wrote.the-variants.{Bytes}

@@ -6,10 +6,10 @@ use Prim.Native.Nat.{ℕ, zero, suc}
 use Rattle.penne.specs.Reader.{Counts, Cur, Reader, _>>=_, ret, below}
 use Rattle.penne.specs.Tree.{Spot, Maybe, ok, err}
 use Rattle.penne.specs.Read.{either, maybe, option, readPoison}
-use Rattle.tree.specs.declared.number.Read.{Read}
-use Rattle.tree.specs.declared.number.Read.the-variants.{Number, Refused}
-use Rattle.tree.specs.Answers.{cursor, Gives}
-use Rattle.tree.proofs.Chain.{reads}
+use Rattle.fields.specs.declared.number.Read.{Read}
+use Rattle.fields.specs.declared.number.Read.the-variants.{Number, Refused}
+use Rattle.fields.specs.Answers.{cursor, Gives}
+use Rattle.fields.proofs.Chain.{reads}
 use Rattle.walk.specs.Walking.{Leads}
 use Rattle.walk.proofs.Leading.{leads-read, leads-unread}
 

@@ -11,14 +11,14 @@ use Rattle.penne.specs.Reader.{Cur, Got, got, refused, Reader, _>>=_, ret, such
 use Rattle.penne.specs.Tree.{Spot, poison, earlier}
 use Rattle.penne.specs.Read.{place, name, ident, poisonFields, poisonOf, readPoison}
 use Rattle.penne.specs.Write.{numB, placeB, eachB, identB, poisonB}
-use Rattle.tree.specs.Answers.{cursor, countsOf, Ends, twoPlaces, operator}
+use Rattle.fields.specs.Answers.{cursor, countsOf, Ends, twoPlaces, operator}
 use Rattle.answer.specs.Parts.{renumbered}
 use Rattle.answer.proofs.Spelling.{num-reading}
 use Rattle.answer.proofs.Runs.{renumbered-end, renumbered-more}
 use Rattle.answer.specs.declared.wrote.Wrote.{Wrote}
 use Rattle.answer.specs.Out.{Put}
-use Rattle.tree.specs.declared.number.Read.{Read}
-use Rattle.tree.specs.declared.number.Read.the-variants.{Number, Refused}
+use Rattle.fields.specs.declared.number.Read.{Read}
+use Rattle.fields.specs.declared.number.Read.the-variants.{Number, Refused}
 use Rattle.walk.specs.declared.state.Walk.{Walk}
 use Rattle.walk.specs.Walking.{here, Moves, Writes, Ground, Leads, Walks, say}
 use Rattle.walk.proofs.Leading.{never, same-value, same-cur, bind-got, such-got, walks, leads-bind, leads-got, leads-part, leads-ended}

@@ -10,8 +10,8 @@ use Rattle.penne.specs.Read.{poisonFields}
 use Rattle.penne.specs.Write.{poisonB}
 use Rattle.penne.specs.Containers.{containedIdsOf, constantInCycle, cyclicalStructure, cyclical, idOf}
 use Rattle.penne.specs.Scopes.{Analyzer}
-use Rattle.tree.specs.declared.counts.Counts as K
-use Rattle.tree.specs.Answers.{poisonNames, poisonPlaces}
+use Rattle.fields.specs.declared.counts.Counts as K
+use Rattle.fields.specs.Answers.{poisonNames, poisonPlaces}
 use Rattle.answer.proofs.Fields.{poison-bytes}
 use Rattle.containers.specs.declared.containers.Declared.{Declared}
 use Rattle.containers.specs.declared.containers.Found.{Found}

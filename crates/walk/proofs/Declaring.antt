@@ -11,8 +11,8 @@ use Rattle.penne.specs.Tree.{Spot, Ident, ok}
 use Rattle.penne.specs.Find.{resolved}
 use Rattle.penne.specs.Containers.{Container}
 use Rattle.penne.specs.Scopes.{withStack, nextId, unlessDuplicate, authoritative, pushVariable, declareVariable}
-use Rattle.tree.specs.declared.field.Identifier.{Identifier}
-use Rattle.tree.specs.Answers.{identOf}
+use Rattle.fields.specs.declared.field.Identifier.{Identifier}
+use Rattle.fields.specs.Answers.{identOf}
 use Rattle.scopes.specs.declared.scope.Scope.{Scope}
 use Rattle.scopes.specs.Calls as S
 use Rattle.scopes.proofs.Analyzing.{mirrors-declare}

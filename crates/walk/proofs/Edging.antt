@@ -11,8 +11,8 @@ use Rattle.penne.specs.Write.{poisonB}
 use Rattle.penne.specs.State.{ret}
 use Rattle.penne.specs.Containers.{Container, idOf, foundContainer1}
 use Rattle.penne.specs.Scopes.{Analyzer, onContainment, withContainment, useContainee, useAs}
-use Rattle.tree.specs.declared.field.Identifier.{Identifier}
-use Rattle.tree.specs.Answers.{identOf}
+use Rattle.fields.specs.declared.field.Identifier.{Identifier}
+use Rattle.fields.specs.Answers.{identOf}
 use Rattle.containers.specs.declared.containers.Declared.{Declared}
 use Rattle.containers.specs.Table.{at, idAt}
 use Rattle.walk.specs.declared.state.Walk.{Walk}

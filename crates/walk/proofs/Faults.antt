@@ -6,8 +6,8 @@ use lib.ListN.{getD}
 use Rattle.penne.specs.Tree.{Spot, poison}
 use Rattle.penne.specs.Read.{poisonFields}
 use Rattle.penne.specs.Write.{poisonB}
-use Rattle.tree.specs.declared.field.Identifier.{Identifier}
-use Rattle.tree.specs.Answers.{identOf, poisonNames, poisonPlaces}
+use Rattle.fields.specs.declared.field.Identifier.{Identifier}
+use Rattle.fields.specs.Answers.{identOf, poisonNames, poisonPlaces}
 use Rattle.answer.proofs.Fields.{poison-bytes}
 use Rattle.walk.specs.Walking.{faultB, poisonedFault, undefinedFault, duplicateFault}
 

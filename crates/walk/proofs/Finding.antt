@@ -16,17 +16,17 @@ use Rattle.penne.specs.Read.{ident, readTy, tyOf, TyKind, tyKinds, kPlain, kArr
 use Rattle.penne.specs.Find.{firstNamed}
 use Rattle.penne.specs.Containers.{Containment, idOf, foundContainer1, foundContainer}
 use Rattle.penne.specs.Scopes.{Analyzer, withContainment}
-use Rattle.tree.specs.declared.number.Read.{Read}
-use Rattle.tree.specs.declared.number.Read.the-variants.{Number, Refused}
-use Rattle.tree.specs.declared.field.Identifier.{Identifier}
-use Rattle.tree.specs.declared.field.Identified.{Identified}
-use Rattle.tree.specs.declared.field.Identified.the-variants as I
-use Rattle.tree.specs.declared.counts.Counts as K
-use Rattle.tree.proofs.Fields.{getD-past}
-use Rattle.tree.specs.Answers.{cursor, numberOf, endOf, identifiedOf, Gives, Ends, Identifies}
+use Rattle.fields.specs.declared.number.Read.{Read}
+use Rattle.fields.specs.declared.number.Read.the-variants.{Number, Refused}
+use Rattle.fields.specs.declared.field.Identifier.{Identifier}
+use Rattle.fields.specs.declared.field.Identified.{Identified}
+use Rattle.fields.specs.declared.field.Identified.the-variants as I
+use Rattle.fields.specs.declared.counts.Counts as K
+use Rattle.fields.proofs.Fields.{getD-past}
+use Rattle.fields.specs.Answers.{cursor, numberOf, endOf, identifiedOf, Gives, Ends, Identifies}
 use Rattle.tree.proofs.Scripts.{forget-got}
 use Rattle.tree.proofs.Types.{run}
-use Rattle.tree.proofs.Numbers.{such-got as such-is}
+use Rattle.fields.proofs.Numbers.{such-got as such-is}
 use Rattle.containers.specs.declared.containers.Found.{Found}
 use Rattle.containers.specs.declared.containers.Found.the-variants.{At, Nothing}
 use Rattle.containers.specs.Table.{at, idAt, kindOf}

@@ -10,7 +10,7 @@ use Rattle.penne.specs.Tree.{Spot, Ident, Maybe, Ty}
 use Rattle.penne.specs.Variables.{analyzeWellfoundedness}
 use Rattle.penne.specs.Containers.{idOf, foundContainer1}
 use Rattle.penne.specs.Scopes.{Analyzer, withContainment}
-use Rattle.tree.specs.declared.counts.Counts as K
+use Rattle.fields.specs.declared.counts.Counts as K
 use Rattle.containers.specs.declared.containers.Contained.{Contained}
 use Rattle.containers.specs.declared.containers.Contained.the-variants as T
 use Rattle.containers.specs.Table.{at, idAt}

@@ -10,10 +10,10 @@ use borrow.Author.Tests.{ltb-true}
 use Rattle.penne.specs.Reader.{Cur, Got, got, refused, _>>=_, ret, num, below, groups, lastGroup, moved, nothing}
 use Rattle.penne.specs.Tree.{Spot, Ident}
 use Rattle.penne.specs.Read.{name, ident}
-use Rattle.tree.specs.declared.field.Identifier.{Identifier}
-use Rattle.tree.specs.declared.field.Identified.{Identified}
-use Rattle.tree.specs.declared.field.Identified.the-variants as I
-use Rattle.tree.specs.Answers.{cursor, identOf, identifiedOf, Identifies}
+use Rattle.fields.specs.declared.field.Identifier.{Identifier}
+use Rattle.fields.specs.declared.field.Identified.{Identified}
+use Rattle.fields.specs.declared.field.Identified.the-variants as I
+use Rattle.fields.specs.Answers.{cursor, identOf, identifiedOf, Identifies}
 use Rattle.answer.proofs.Spelling.{num-reading}
 use Rattle.walk.proofs.Leading.{never, same-value, same-cur, bind-got, such-got}
 

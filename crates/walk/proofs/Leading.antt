@@ -12,16 +12,16 @@ use Rattle.penne.specs.Read.{place, ident}
 use Rattle.penne.specs.Write.{poisonB}
 use Rattle.penne.specs.Scopes.{Pass}
 pub use Rattle.penne.proofs.Leading.{never, same-value, same-cur}
-use Rattle.tree.specs.declared.number.Read.{Read}
-use Rattle.tree.specs.declared.number.Read.the-variants.{Number, Refused}
-use Rattle.tree.specs.declared.field.Identifier.{Identifier}
-use Rattle.tree.specs.declared.field.Identified.{Identified}
-use Rattle.tree.specs.declared.field.Identified.the-variants as I
-use Rattle.tree.specs.declared.counts.Counts as K
-use Rattle.tree.specs.declared.counts.Passed.{Passed}
-use Rattle.tree.specs.declared.counts.Passed.the-variants as Q
-use Rattle.tree.specs.Answers.{cursor, numberOf, endOf, forget, identOf, identifiedOf, countsOf, passedOf, Gives, Reads, Ends, Skips, Identifies, Passes, twoPlaces, operator}
-use Rattle.tree.proofs.Chain.{Node, places-same, operator-same}
+use Rattle.fields.specs.declared.number.Read.{Read}
+use Rattle.fields.specs.declared.number.Read.the-variants.{Number, Refused}
+use Rattle.fields.specs.declared.field.Identifier.{Identifier}
+use Rattle.fields.specs.declared.field.Identified.{Identified}
+use Rattle.fields.specs.declared.field.Identified.the-variants as I
+use Rattle.fields.specs.declared.counts.Counts as K
+use Rattle.fields.specs.declared.counts.Passed.{Passed}
+use Rattle.fields.specs.declared.counts.Passed.the-variants as Q
+use Rattle.fields.specs.Answers.{cursor, numberOf, endOf, forget, identOf, identifiedOf, countsOf, passedOf, Gives, Reads, Ends, Skips, Identifies, Passes, twoPlaces, operator}
+use Rattle.fields.proofs.Chain.{Node, places-same, operator-same}
 use Rattle.tree.proofs.Scripts.{forget-got}
 use Rattle.walk.specs.declared.state.Walk.{Walk}
 use Rattle.walk.specs.declared.fault.Fault.{Fault}

@@ -6,7 +6,7 @@ use native.Mathlib.Omega.{arith}
 use lib.ListN.{length}
 use Rattle.penne.specs.Scopes.{withStack, withContainment, nextId, declareVariable}
 use Rattle.penne.specs.Variables.{inConstexprOf}
-use Rattle.tree.specs.declared.field.Identifier.{Identifier}
+use Rattle.fields.specs.declared.field.Identifier.{Identifier}
 use Rattle.scopes.specs.declared.scope.Local.{Local}
 use Rattle.containers.specs.declared.containers.Found.the-variants.{Nothing}
 use Rattle.walk.specs.declared.state.Script.{Script}

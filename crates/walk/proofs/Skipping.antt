@@ -15,8 +15,8 @@ use Rattle.penne.specs.Pruning.{Pruning, pruned, poisoned, standing, fate, pois
 use Rattle.penne.specs.Pruning as R
 use Rattle.penne.specs.Scopes.{Analyzer, withPrunings, variables, undefined, useContainee, useAs, mayBeSkipped, useVariableBy, useVariableAt, useVariable}
 use Rattle.penne.specs.Scoper.{words}
-use Rattle.tree.specs.declared.field.Identifier.{Identifier}
-use Rattle.tree.specs.Answers.{identOf, poisonNames, poisonPlaces}
+use Rattle.fields.specs.declared.field.Identifier.{Identifier}
+use Rattle.fields.specs.Answers.{identOf, poisonNames, poisonPlaces}
 use Rattle.answer.specs.declared.wrote.Wrote.{Wrote}
 use Rattle.answer.specs.Out.{Put, Said}
 use Rattle.answer.proofs.Said.{said-put}

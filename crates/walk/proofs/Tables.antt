@@ -14,7 +14,7 @@ use Rattle.penne.specs.Find.{keep}
 use Rattle.penne.specs.Containers.{Container, Containment, identifierOf, structures, constants, joined, joinWhere, addedIds, addIds, containedIdsOf, idOf, foundContainer1}
 use Rattle.penne.specs.Find.{isIn}
 use Rattle.penne.specs.Scopes.{Analyzer, withContainment}
-use Rattle.tree.specs.declared.counts.Counts as K
+use Rattle.fields.specs.declared.counts.Counts as K
 use Rattle.scopes.specs.Table.{Keeps}
 use Rattle.scopes.specs.Mirror.{Mirrors}
 use Rattle.scopes.proofs.Analyzing.{mirrors-containment}

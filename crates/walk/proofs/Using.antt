@@ -11,8 +11,8 @@ use Rattle.penne.specs.State.{ret}
 use Rattle.penne.specs.Containers.{structures, constants}
 use Rattle.penne.specs.Scopes.{Analyzer, Pass, onContainment, withContainment, undefined, useContainee, useAs, useConstantAt, useConstant, useFunctionAt, useFunction, useStructAt, useStruct}
 use Rattle.penne.specs.Variables.{useCalled}
-use Rattle.tree.specs.declared.field.Identifier.{Identifier}
-use Rattle.tree.specs.Answers.{identOf}
+use Rattle.fields.specs.declared.field.Identifier.{Identifier}
+use Rattle.fields.specs.Answers.{identOf}
 use Rattle.containers.specs.declared.containers.Declared.{Declared}
 use Rattle.containers.specs.declared.containers.Found.{Found}
 use Rattle.containers.specs.declared.containers.Found.the-variants.{At, Nothing}

@@ -8,8 +8,8 @@ use Rattle.penne.specs.Tree.{Spot}
 use Rattle.penne.specs.Pruning.{offsets}
 use Rattle.penne.specs.Scopes.{Analyzer}
 use Rattle.penne.specs.Scoper.{words}
-use Rattle.tree.specs.declared.counts.Counts as K
-use Rattle.tree.specs.Answers.{cursor, countsOf}
+use Rattle.fields.specs.declared.counts.Counts as K
+use Rattle.fields.specs.Answers.{cursor, countsOf}
 use Rattle.answer.specs.declared.wrote.Wrote.{Wrote}
 use Rattle.answer.specs.Out.{Put, Said}
 use Rattle.answer.proofs.Said.{said-put, said-back, said-instead}

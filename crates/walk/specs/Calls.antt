@@ -15,9 +15,9 @@ use Rattle.penne.specs.Write.{poisonB}
 use Rattle.penne.specs.Containers.{Containment, cyclical, foundContainer1, foundContainer}
 use Rattle.penne.specs.Scopes.{Analyzer, Pass, withContainment, variables, useAs, useConstant, useVariable, declareVariable}
 use Rattle.penne.specs.Variables.{analyzeType, foundMaybe, analyzeWellfoundedness}
-use Rattle.tree.specs.declared.counts.Counts as K
-use Rattle.tree.specs.declared.field.Identifier.{Identifier}
-use Rattle.tree.specs.Answers.{cursor, identOf, poisonNames, poisonPlaces}
+use Rattle.fields.specs.declared.counts.Counts as K
+use Rattle.fields.specs.declared.field.Identifier.{Identifier}
+use Rattle.fields.specs.Answers.{cursor, identOf, poisonNames, poisonPlaces}
 use Rattle.answer.specs.declared.wrote.Wrote.{Wrote}
 use Rattle.answer.specs.Out.{Put}
 use Rattle.scopes.specs.declared.scope.Local.{Local}

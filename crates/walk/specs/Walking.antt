@@ -15,9 +15,9 @@ use Rattle.penne.specs.Scopes.{Analyzer, Pass, withStack, nextId}
 use Rattle.penne.specs.Scopes as Defs
 use Rattle.penne.specs.Variables.{isMain, inConstexprOf}
 use Rattle.penne.specs.Scoper.{words}
-use Rattle.tree.specs.declared.counts.Counts as C
-use Rattle.tree.specs.declared.field.Identifier.{Identifier}
-use Rattle.tree.specs.Answers.{cursor, countsOf, identOf}
+use Rattle.fields.specs.declared.counts.Counts as C
+use Rattle.fields.specs.declared.field.Identifier.{Identifier}
+use Rattle.fields.specs.Answers.{cursor, countsOf, identOf}
 use Rattle.answer.specs.declared.wrote.Wrote.{Wrote}
 use Rattle.answer.specs.Out.{Said}
 use Rattle.answer.specs.Parts.{identifierB, poisonedB}

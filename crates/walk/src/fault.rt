@@ -1,7 +1,7 @@
 // Poisons that the pass makes, by their kind, names and places.
 use answer::poison::then_poison;
 use answer::wrote::Wrote;
-use tree::field::Identifier;
+use fields::field::Identifier;
 ghost use mathlib.Core.Path.{_≡_};
 ghost use Rattle.answer.specs.Out.{Put};
 ghost use Rattle.walk.specs.Walking.{faultB, poisonedFault, undefinedFault, duplicateFault, labelFault};

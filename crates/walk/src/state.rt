@@ -1,7 +1,7 @@
 // The state of the second pass. Tables stand in the work words.
 use answer::wrote::Wrote;
+use fields::counts::Counts;
 use scopes::scope::Scope;
-use tree::counts::Counts;
 ghost use Rattle.walk.specs.Walking.{Moves, Writes, Lists, Counted, Takes};
 
 // What does not change once all is predeclared: how many names, constants and structures, functions there are, and which name is `main` (as many as there are names, where none is).

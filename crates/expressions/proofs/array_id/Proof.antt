@@ -3,7 +3,7 @@
 use borrow.Author.Needs.{needs}
 use native.Mathlib.Omega.{arith}
 use mathlib.Core.Path.{refl}
-use Rattle.tree.proofs.Chain.{reads}
+use Rattle.fields.proofs.Chain.{reads}
 use Rattle.walk.proofs.Leading.{walks, leads-read, leads-unread, leads-end}
 use Rattle.types.proofs.Trying.{leads-at}
 use Rattle.expressions.proofs.Onward.{on, leads-on, leads-ret}

@@ -5,7 +5,7 @@ use native.Mathlib.Omega.{arith}
 use mathlib.Core.Path.{refl}
 use Rattle.penne.specs.Read.{readBoolean}
 use Rattle.penne.specs.Tree.{boolean}
-use Rattle.tree.proofs.Chain.{reads, ends-number, ends-place}
+use Rattle.fields.proofs.Chain.{reads, ends-number, ends-place}
 use Rattle.walk.proofs.Leading.{walks, leads-skip, leads-unskip, leads-end}
 use Rattle.walk.proofs.Copying.{spells-join, spelled-place, spelled-below}
 use Rattle.expressions.proofs.Onward.{on, leads-on}

@@ -4,7 +4,7 @@ use borrow.Author.Needs.{needs}
 use native.Mathlib.Omega.{arith}
 use mathlib.Core.Path.{refl, _∙_}
 use Rattle.penne.specs.Read.{readInteger}
-use Rattle.tree.proofs.Chain.{ends-place}
+use Rattle.fields.proofs.Chain.{ends-place}
 use Rattle.answer.proofs.Chain.{_▸_}
 use Rattle.walk.proofs.Leading.{walks, leads-skip, leads-unskip, leads-end}
 use Rattle.walk.proofs.Copying.{spells-join, spelled-place}

@@ -5,7 +5,7 @@ use native.Mathlib.Omega.{arith}
 use mathlib.Core.Path.{refl}
 use Rattle.penne.specs.Read.{stepOf}
 use Rattle.penne.specs.Tree.{member}
-use Rattle.tree.proofs.Chain.{reads, ends-number}
+use Rattle.fields.proofs.Chain.{reads, ends-number}
 use Rattle.walk.proofs.Leading.{walks, leads-skip, leads-unskip, leads-end}
 use Rattle.walk.proofs.Copying.{spells-join, spelled-num, spelled-ident}
 use Rattle.expressions.proofs.Onward.{on, leads-on}

@@ -6,7 +6,7 @@ use mathlib.Core.Path.{refl, _∙_}
 use mathlib.Core.Bool.{false}
 use Rattle.penne.specs.Read.{readSizeOf}
 use Rattle.penne.specs.Tree.{sizeOf}
-use Rattle.tree.proofs.Chain.{ends-place}
+use Rattle.fields.proofs.Chain.{ends-place}
 use Rattle.walk.proofs.Leading.{walks, leads-skip, leads-unskip, leads-tried, leads-end}
 use Rattle.walk.proofs.Writing.{here-wrote}
 use Rattle.walk.proofs.Copying.{spelled-place}

@@ -5,7 +5,7 @@ use native.Mathlib.Omega.{arith}
 use mathlib.Core.Path.{refl, _∙_}
 use Rattle.penne.specs.Read.{readString}
 use Rattle.penne.specs.Tree.{string}
-use Rattle.tree.proofs.Fields.{bytes-refused, bytes-are}
+use Rattle.fields.proofs.Fields.{bytes-refused, bytes-are}
 use Rattle.answer.proofs.Chain.{_▸_}
 use Rattle.walk.proofs.Leading.{walks, leads-skip, leads-unskip, leads-place, leads-unplace, leads-end}
 use Rattle.expressions.proofs.Onward.{on, leads-on}

@@ -7,7 +7,7 @@ use mathlib.Core.Path.{refl, _∙_}
 use Prim.Native.Nat.{ℕ}
 use Rattle.penne.specs.Read.{toNodes, readArrayLiteral}
 use Rattle.penne.specs.Tree.{arrayLiteral}
-use Rattle.tree.proofs.Chain.{ends-place}
+use Rattle.fields.proofs.Chain.{ends-place}
 use Rattle.walk.proofs.Leading.{walks, leads-skip, leads-unskip, leads-call, leads-end}
 use Rattle.walk.proofs.Copying.{spells-join, spelled-place}
 use Rattle.walk.proofs.Carrying.{spelled-carried}
@@ -22,7 +22,7 @@ use Rattle.tree.proofs.value_type.carried.Reads as carried-reads
 use Rattle.walk.proofs.names.closed.Reads as closed-reads
 use Rattle.expressions.proofs.expressions.Reads as expressions
 use Rattle.walk.proofs.state.Walk.moved.Reads as moved-reads
-use Rattle.tree.proofs.number.number.Reads as number-reads
+use Rattle.fields.proofs.number.number.Reads as number-reads
 use Rattle.walk.proofs.names.opened.Reads as opened-reads
 use Rattle.answer.proofs.copy.then_head.Reads as then-head-reads
 use Rattle.walk.proofs.state.Walk.wrote.Reads as wrote-reads

@@ -19,7 +19,7 @@ use Rattle.tree.proofs.value_type.carried.Reads as carried-reads
 use Rattle.expressions.proofs.expression.Reads as expression
 use Rattle.walk.proofs.state.Walk.moved.Reads as moved-reads
 use Rattle.answer.proofs.copy.then_head.Reads as then-head-reads
-use Rattle.tree.proofs.field.two_places.Reads as two-places-reads
+use Rattle.fields.proofs.field.two_places.Reads as two-places-reads
 use Rattle.walk.proofs.state.Walk.wrote.Reads as wrote-reads
 
 abbrev calls : ℕ → lts.Claims

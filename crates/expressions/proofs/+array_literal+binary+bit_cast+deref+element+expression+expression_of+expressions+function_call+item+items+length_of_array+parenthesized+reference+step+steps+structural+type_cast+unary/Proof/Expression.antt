@@ -4,14 +4,14 @@ use Prim.Native.Nat.{ℕ}
 use borrow.Author.Needs.{needs}
 use native.Mathlib.Omega.{arith}
 use Prim.Native.Nat.{ℕ}
-use Rattle.tree.proofs.Chain.{reads}
+use Rattle.fields.proofs.Chain.{reads}
 use Rattle.tree.proofs.Nodes.{expr-node}
 use Rattle.walk.proofs.Leading.{walks, node-deep, node-unread, node-in}
 use Rattle.walk.proofs.Writing.{moved}
 use Rattle.expressions.proofs.Onward.{leads-moved}
 use Rattle.expressions.proofs.+array_literal+binary+bit_cast+deref+element+expression+expression_of+expressions+function_call+item+items+length_of_array+parenthesized+reference+step+steps+structural+type_cast+unary.Lts-expression as lts
 use Rattle.expressions.proofs.+array_literal+binary+bit_cast+deref+element+expression+expression_of+expressions+function_call+item+items+length_of_array+parenthesized+reference+step+steps+structural+type_cast+unary.Proof.Common.{expression-at, expression-of-below}
-use Rattle.tree.proofs.number.below.Reads as below-reads
+use Rattle.fields.proofs.number.below.Reads as below-reads
 use Rattle.expressions.proofs.expression.Reads as expression
 use Rattle.expressions.proofs.expression_of.Reads as expression-of
 use Rattle.walk.proofs.state.Walk.moved.Reads as moved-reads

@@ -9,7 +9,7 @@ use Rattle.penne.specs.Reader.{listed}
 use Rattle.penne.specs.Read.{read}
 use Rattle.penne.specs.Write.{nodeB}
 use Rattle.penne.specs.Tree.{expr}
-use Rattle.tree.proofs.Chain.{reads}
+use Rattle.fields.proofs.Chain.{reads}
 use Rattle.walk.specs.Walking.{onward}
 use Rattle.walk.proofs.Leading.{walks, leads-read, leads-unread, Going, going-start, going-more, going-done}
 use Rattle.expressions.specs.Expressing.{nodes}
@@ -19,7 +19,7 @@ use Rattle.expressions.proofs.+array_literal+binary+bit_cast+deref+elem
 use Rattle.expressions.proofs.expression.Reads as expression
 use Rattle.expressions.proofs.expressions.Reads as expressions
 use Rattle.walk.proofs.state.Walk.moved.Reads as moved-reads
-use Rattle.tree.proofs.number.number.Reads as number-reads
+use Rattle.fields.proofs.number.number.Reads as number-reads
 use Rattle.answer.proofs.number.then_number.Reads as then-number-reads
 use Rattle.walk.proofs.state.Walk.wrote.Reads as wrote-reads
 

@@ -7,7 +7,7 @@ use mathlib.Core.Path.{refl, _∙_}
 use Prim.Native.Nat.{ℕ}
 use Rattle.penne.specs.Read.{toNodes, readFunctionCall}
 use Rattle.penne.specs.Tree.{functionCall}
-use Rattle.tree.proofs.Chain.{reads}
+use Rattle.fields.proofs.Chain.{reads}
 use Rattle.walk.proofs.Leading.{walks, leads-read, leads-unread, leads-identified, leads-unidentified, leads-skip, leads-unskip, leads-call, leads-end}
 use Rattle.walk.proofs.Writing.{moved, here-wrote}
 use Rattle.walk.proofs.Copying.{spells-join}
@@ -22,8 +22,8 @@ use Rattle.tree.proofs.value_type.carried.Reads as carried-reads
 use Rattle.expressions.proofs.expressions.Reads as expressions
 use Rattle.expressions.proofs.function_call.Reads as function-call
 use Rattle.walk.proofs.state.Walk.moved.Reads as moved-reads
-use Rattle.tree.proofs.number.number.Reads as number-reads
-use Rattle.tree.proofs.field.read_identifier.Reads as read-identifier-reads
+use Rattle.fields.proofs.number.number.Reads as number-reads
+use Rattle.fields.proofs.field.read_identifier.Reads as read-identifier-reads
 use Rattle.walk.proofs.names.use_called.Reads as use-called-reads
 use Rattle.walk.proofs.items.write_fault.Reads as write-fault-reads
 use Rattle.walk.proofs.state.Walk.wrote.Reads as wrote-reads

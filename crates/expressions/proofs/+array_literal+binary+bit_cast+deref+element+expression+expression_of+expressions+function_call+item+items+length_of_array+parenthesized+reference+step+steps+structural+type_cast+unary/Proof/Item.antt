@@ -7,7 +7,7 @@ use mathlib.Core.Path.{refl, _∙_}
 use Prim.Native.Nat.{ℕ}
 use Rattle.penne.specs.Read.{itemOf}
 use Rattle.penne.specs.Tree.{memberExpression}
-use Rattle.tree.proofs.Chain.{reads, ends-number}
+use Rattle.fields.proofs.Chain.{reads, ends-number}
 use Rattle.walk.proofs.Leading.{walks, leads-skip, leads-unskip, leads-call, leads-end}
 use Rattle.walk.proofs.Copying.{spells-join, spelled-num, spelled-ident}
 use Rattle.walk.proofs.Carrying.{spelled-maybe}
@@ -17,9 +17,9 @@ use Rattle.expressions.proofs.+array_literal+binary+bit_cast+deref+elem
 use Rattle.expressions.proofs.+array_literal+binary+bit_cast+deref+element+expression+expression_of+expressions+function_call+item+items+length_of_array+parenthesized+reference+step+steps+structural+type_cast+unary.Proof.Common.{expression-below, item-at}
 use Rattle.expressions.proofs.expression.Reads as expression
 use Rattle.expressions.proofs.item.Reads as item
-use Rattle.tree.proofs.poison.maybe_identifier.Reads as maybe-identifier-reads
+use Rattle.fields.proofs.poison.maybe_identifier.Reads as maybe-identifier-reads
 use Rattle.walk.proofs.state.Walk.moved.Reads as moved-reads
-use Rattle.tree.proofs.number.number.Reads as number-reads
+use Rattle.fields.proofs.number.number.Reads as number-reads
 use Rattle.answer.proofs.copy.then_numbers.Reads as then-numbers-reads
 use Rattle.walk.proofs.state.Walk.wrote.Reads as wrote-reads
 

@@ -8,7 +8,7 @@ use Prim.Native.Nat.{ℕ}
 use Rattle.penne.specs.Reader.{listed}
 use Rattle.penne.specs.Read.{itemOf, read}
 use Rattle.penne.specs.Write.{nodeB}
-use Rattle.tree.proofs.Chain.{reads}
+use Rattle.fields.proofs.Chain.{reads}
 use Rattle.walk.specs.Walking.{onward}
 use Rattle.walk.proofs.Leading.{walks, leads-read, leads-unread, Going, going-start, going-more, going-done}
 use Rattle.expressions.specs.Expressing.{nodes}
@@ -18,7 +18,7 @@ use Rattle.expressions.proofs.+array_literal+binary+bit_cast+deref+elem
 use Rattle.expressions.proofs.item.Reads as item
 use Rattle.expressions.proofs.items.Reads as items
 use Rattle.walk.proofs.state.Walk.moved.Reads as moved-reads
-use Rattle.tree.proofs.number.number.Reads as number-reads
+use Rattle.fields.proofs.number.number.Reads as number-reads
 use Rattle.answer.proofs.number.then_number.Reads as then-number-reads
 use Rattle.walk.proofs.state.Walk.wrote.Reads as wrote-reads
 

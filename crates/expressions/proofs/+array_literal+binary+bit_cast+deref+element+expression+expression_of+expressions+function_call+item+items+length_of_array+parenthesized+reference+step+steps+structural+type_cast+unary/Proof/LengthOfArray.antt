@@ -7,7 +7,7 @@ use mathlib.Core.Path.{refl, _∙_}
 use Prim.Native.Nat.{ℕ}
 use Rattle.penne.specs.Read.{readLengthOfArray}
 use Rattle.penne.specs.Tree.{lengthOfArray}
-use Rattle.tree.proofs.Chain.{ends-place}
+use Rattle.fields.proofs.Chain.{ends-place}
 use Rattle.walk.proofs.Leading.{walks, leads-skip, leads-unskip, leads-call, leads-end}
 use Rattle.walk.proofs.Copying.{spelled-place}
 use Rattle.expressions.proofs.Onward.{on, leads-on}
@@ -16,7 +16,7 @@ use Rattle.expressions.proofs.+array_literal+binary+bit_cast+deref+elem
 use Rattle.expressions.proofs.+array_literal+binary+bit_cast+deref+element+expression+expression_of+expressions+function_call+item+items+length_of_array+parenthesized+reference+step+steps+structural+type_cast+unary.Proof.Common.{length-of-array-at, reference-below}
 use Rattle.expressions.proofs.length_of_array.Reads as length-of-array
 use Rattle.walk.proofs.state.Walk.moved.Reads as moved-reads
-use Rattle.tree.proofs.number.number.Reads as number-reads
+use Rattle.fields.proofs.number.number.Reads as number-reads
 use Rattle.expressions.proofs.reference.Reads as reference
 use Rattle.answer.proofs.copy.then_head.Reads as then-head-reads
 use Rattle.walk.proofs.state.Walk.wrote.Reads as wrote-reads

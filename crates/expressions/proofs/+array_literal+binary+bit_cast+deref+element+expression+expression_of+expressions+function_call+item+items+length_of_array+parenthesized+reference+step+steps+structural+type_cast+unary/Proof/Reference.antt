@@ -7,7 +7,7 @@ use mathlib.Core.Path.{refl, _∙_}
 use Prim.Native.Nat.{ℕ}
 use Rattle.penne.specs.Read.{toNodes, restOf}
 use Rattle.penne.specs.Tree.{reference}
-use Rattle.tree.proofs.Chain.{reads}
+use Rattle.fields.proofs.Chain.{reads}
 use Rattle.tree.proofs.Nodes.{ref-node}
 use Rattle.walk.proofs.Leading.{walks, leads-places, leads-unplaces, leads-call, leads-end, node-deep, node-unread, node-in}
 use Rattle.walk.proofs.Copying.{spells-join, spelled-places}
@@ -17,12 +17,12 @@ use Rattle.expressions.proofs.Names.{below-spelled}
 use Rattle.expressions.proofs.+array_literal+binary+bit_cast+deref+element+expression+expression_of+expressions+function_call+item+items+length_of_array+parenthesized+reference+step+steps+structural+type_cast+unary.Lts-reference as lts
 use Rattle.expressions.proofs.+array_literal+binary+bit_cast+deref+element+expression+expression_of+expressions+function_call+item+items+length_of_array+parenthesized+reference+step+steps+structural+type_cast+unary.Proof.Common.{reference-at, steps-below}
 use Rattle.expressions.proofs.base.Reads as base-reads
-use Rattle.tree.proofs.number.below.Reads as below-reads
+use Rattle.fields.proofs.number.below.Reads as below-reads
 use Rattle.walk.proofs.state.Walk.moved.Reads as moved-reads
 use Rattle.expressions.proofs.reference.Reads as reference
 use Rattle.expressions.proofs.steps.Reads as steps
 use Rattle.answer.proofs.copy.then_numbers.Reads as then-numbers-reads
-use Rattle.tree.proofs.field.two_places.Reads as two-places-reads
+use Rattle.fields.proofs.field.two_places.Reads as two-places-reads
 use Rattle.walk.proofs.state.Walk.wrote.Reads as wrote-reads
 
 abbrev calls : ℕ → lts.Claims

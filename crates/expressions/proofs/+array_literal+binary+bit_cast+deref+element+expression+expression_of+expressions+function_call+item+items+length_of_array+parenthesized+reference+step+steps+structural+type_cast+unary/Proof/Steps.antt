@@ -9,7 +9,7 @@ use Rattle.penne.specs.Reader.{listed}
 use Rattle.penne.specs.Read.{read}
 use Rattle.penne.specs.Write.{nodeB}
 use Rattle.penne.specs.Tree.{step}
-use Rattle.tree.proofs.Chain.{reads}
+use Rattle.fields.proofs.Chain.{reads}
 use Rattle.walk.specs.Walking.{onward}
 use Rattle.walk.proofs.Leading.{walks, leads-read, leads-unread, Going, going-start, going-more, going-done}
 use Rattle.expressions.specs.Expressing.{nodes}
@@ -17,7 +17,7 @@ use Rattle.expressions.proofs.Onward.{on, leads-on, nodes-listed, leads
 use Rattle.expressions.proofs.+array_literal+binary+bit_cast+deref+element+expression+expression_of+expressions+function_call+item+items+length_of_array+parenthesized+reference+step+steps+structural+type_cast+unary.Lts-steps as lts
 use Rattle.expressions.proofs.+array_literal+binary+bit_cast+deref+element+expression+expression_of+expressions+function_call+item+items+length_of_array+parenthesized+reference+step+steps+structural+type_cast+unary.Proof.Common.{step-below, steps-at}
 use Rattle.walk.proofs.state.Walk.moved.Reads as moved-reads
-use Rattle.tree.proofs.number.number.Reads as number-reads
+use Rattle.fields.proofs.number.number.Reads as number-reads
 use Rattle.expressions.proofs.step.Reads as step
 use Rattle.expressions.proofs.steps.Reads as steps
 use Rattle.answer.proofs.number.then_number.Reads as then-number-reads

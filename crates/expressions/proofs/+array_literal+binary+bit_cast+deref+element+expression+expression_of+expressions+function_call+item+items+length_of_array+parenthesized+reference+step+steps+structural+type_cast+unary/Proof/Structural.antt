@@ -8,7 +8,7 @@ use Prim.Native.Nat.{ℕ}
 use mathlib.Core.Bool.{false}
 use Rattle.penne.specs.Read.{toNodes, readStructural}
 use Rattle.penne.specs.Tree.{structural}
-use Rattle.tree.proofs.Chain.{ends-place}
+use Rattle.fields.proofs.Chain.{ends-place}
 use Rattle.walk.proofs.Leading.{walks, leads-skip, leads-unskip, leads-call, leads-end}
 use Rattle.walk.proofs.Copying.{spelled-place}
 use Rattle.expressions.proofs.Onward.{on, leads-on}
@@ -18,7 +18,7 @@ use Rattle.expressions.proofs.+array_literal+binary+bit_cast+deref+elem
 use Rattle.expressions.proofs.items.Reads as items
 use Rattle.types.proofs.maybe_type.Reads as maybe-type-reads
 use Rattle.walk.proofs.state.Walk.moved.Reads as moved-reads
-use Rattle.tree.proofs.number.number.Reads as number-reads
+use Rattle.fields.proofs.number.number.Reads as number-reads
 use Rattle.expressions.proofs.structural.Reads as structural
 use Rattle.answer.proofs.copy.then_head.Reads as then-head-reads
 use Rattle.walk.proofs.state.Walk.wrote.Reads as wrote-reads

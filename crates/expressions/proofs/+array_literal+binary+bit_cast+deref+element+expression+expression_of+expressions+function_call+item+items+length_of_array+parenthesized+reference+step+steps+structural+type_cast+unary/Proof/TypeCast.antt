@@ -20,7 +20,7 @@ use Rattle.expressions.proofs.expression.Reads as expression
 use Rattle.walk.proofs.state.Walk.moved.Reads as moved-reads
 use Rattle.expressions.proofs.past_operand.Reads as past-operand-reads
 use Rattle.answer.proofs.copy.then_head.Reads as then-head-reads
-use Rattle.tree.proofs.field.two_places.Reads as two-places-reads
+use Rattle.fields.proofs.field.two_places.Reads as two-places-reads
 use Rattle.expressions.proofs.type_cast.Reads as type-cast
 use Rattle.types.proofs.value_type.Reads as value-type-reads
 use Rattle.walk.proofs.state.Walk.wrote.Reads as wrote-reads

@@ -15,7 +15,7 @@ use Rattle.expressions.proofs.+array_literal+binary+bit_cast+deref+elem
 use Rattle.expressions.proofs.+array_literal+binary+bit_cast+deref+element+expression+expression_of+expressions+function_call+item+items+length_of_array+parenthesized+reference+step+steps+structural+type_cast+unary.Proof.Common.{expression-below, unary-at}
 use Rattle.expressions.proofs.expression.Reads as expression
 use Rattle.walk.proofs.state.Walk.moved.Reads as moved-reads
-use Rattle.tree.proofs.field.operator.Reads as operator-reads
+use Rattle.fields.proofs.field.operator.Reads as operator-reads
 use Rattle.answer.proofs.copy.then_head.Reads as then-head-reads
 use Rattle.expressions.proofs.unary.Reads as unary
 use Rattle.walk.proofs.state.Walk.wrote.Reads as wrote-reads

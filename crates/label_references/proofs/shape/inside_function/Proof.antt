@@ -5,7 +5,7 @@ use native.Mathlib.Omega.{arith}
 use Rattle.penne.specs.Read.{readFunction}
 use Rattle.label_references.proofs.Leading.{leads-part, leads-unpart, leads-unpassed, places-lead, places-unled}
 use Rattle.label_references.proofs.Starting.{starts-leads, leads-params, inside-unread, inside-poison, inside-body, function-has}
-use Rattle.tree.proofs.Chain.{reads, ends-number}
+use Rattle.fields.proofs.Chain.{reads, ends-number}
 use Rattle.label_references.proofs.shape.inside_function.Statement.{statement}
 use Rattle.label_references.proofs.shape.inside_function.Tie as tie
 

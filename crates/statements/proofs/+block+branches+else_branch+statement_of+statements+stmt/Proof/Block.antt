@@ -11,7 +11,7 @@ use Rattle.statements.proofs.+block+branches+else_branch+statement_of+s
 use Rattle.statements.proofs.block.Reads as block
 use Rattle.walk.proofs.names.closed.Reads as closed-reads
 use Rattle.walk.proofs.state.Walk.moved.Reads as moved-reads
-use Rattle.tree.proofs.number.number.Reads as number-reads
+use Rattle.fields.proofs.number.number.Reads as number-reads
 use Rattle.walk.proofs.names.opened.Reads as opened-reads
 use Rattle.statements.proofs.statements.Reads as statements
 use Rattle.answer.proofs.copy.then_head.Reads as then-head-reads

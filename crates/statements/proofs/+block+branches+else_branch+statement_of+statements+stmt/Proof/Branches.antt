@@ -12,8 +12,8 @@ use Rattle.statements.proofs.branches.Reads as branches
 use Rattle.statements.proofs.else_branch.Reads as else-branch
 use Rattle.expressions.proofs.expression.Reads as expression-reads
 use Rattle.walk.proofs.state.Walk.moved.Reads as moved-reads
-use Rattle.tree.proofs.number.number.Reads as number-reads
-use Rattle.tree.proofs.field.operator.Reads as operator-reads
+use Rattle.fields.proofs.number.number.Reads as number-reads
+use Rattle.fields.proofs.field.operator.Reads as operator-reads
 use Rattle.statements.proofs.stmt.Reads as stmt
 use Rattle.answer.proofs.copy.then_head.Reads as then-head-reads
 use Rattle.walk.proofs.state.Walk.wrote.Reads as wrote-reads

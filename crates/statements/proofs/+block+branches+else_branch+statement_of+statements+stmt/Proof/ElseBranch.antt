@@ -8,10 +8,10 @@ use Prim.Native.Nat.{ℕ}
 use Rattle.statements.proofs.Nesting.{else-not, no-else, else-unread, or-else}
 use Rattle.statements.proofs.+block+branches+else_branch+statement_of+statements+stmt.Lts-else_branch as lts
 use Rattle.statements.proofs.+block+branches+else_branch+statement_of+statements+stmt.Proof.Common.{else-branch-at, stmt-below}
-use Rattle.tree.proofs.number.below.Reads as below-reads
+use Rattle.fields.proofs.number.below.Reads as below-reads
 use Rattle.statements.proofs.else_branch.Reads as else-branch
 use Rattle.walk.proofs.state.Walk.moved.Reads as moved-reads
-use Rattle.tree.proofs.number.number.Reads as number-reads
+use Rattle.fields.proofs.number.number.Reads as number-reads
 use Rattle.statements.proofs.stmt.Reads as stmt
 use Rattle.answer.proofs.copy.then_head.Reads as then-head-reads
 use Rattle.answer.proofs.number.then_number.Reads as then-number-reads

@@ -14,7 +14,7 @@ use Rattle.statements.proofs.Nesting.{stms-not, stms}
 use Rattle.statements.proofs.+block+branches+else_branch+statement_of+statements+stmt.Lts-statements as lts
 use Rattle.statements.proofs.+block+branches+else_branch+statement_of+statements+stmt.Proof.Common.{statements-at, stmt-below}
 use Rattle.walk.proofs.state.Walk.moved.Reads as moved-reads
-use Rattle.tree.proofs.number.number.Reads as number-reads
+use Rattle.fields.proofs.number.number.Reads as number-reads
 use Rattle.statements.proofs.statements.Reads as statements
 use Rattle.statements.proofs.stmt.Reads as stmt
 use Rattle.answer.proofs.number.then_number.Reads as then-number-reads

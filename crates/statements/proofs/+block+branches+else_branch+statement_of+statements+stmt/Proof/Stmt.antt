@@ -7,11 +7,11 @@ use Prim.Native.Nat.{ℕ}
 use Rattle.statements.proofs.Counted.{stmt-unread, stmt-deep, stmt-many, stmt-goes}
 use Rattle.statements.proofs.+block+branches+else_branch+statement_of+statements+stmt.Lts-stmt as lts
 use Rattle.statements.proofs.+block+branches+else_branch+statement_of+statements+stmt.Proof.Common.{statement-of-below, stmt-at}
-use Rattle.tree.proofs.number.below.Reads as below-reads
-use Rattle.tree.proofs.counts.count.Reads as count-reads
+use Rattle.fields.proofs.number.below.Reads as below-reads
+use Rattle.fields.proofs.counts.count.Reads as count-reads
 use Rattle.walk.proofs.state.Walk.counted.Reads as counted-reads
 use Rattle.walk.proofs.state.Walk.moved.Reads as moved-reads
-use Rattle.tree.proofs.counts.statement_counts.Reads as statement-counts-reads
+use Rattle.fields.proofs.counts.statement_counts.Reads as statement-counts-reads
 use Rattle.statements.proofs.statement_of.Reads as statement-of
 use Rattle.statements.proofs.stmt.Reads as stmt
 

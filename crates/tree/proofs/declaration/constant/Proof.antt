@@ -4,7 +4,7 @@ use borrow.Author.Needs.{needs}
 use native.Mathlib.Omega.{arith}
 use Rattle.penne.specs.Read.{readConstant}
 use Rattle.penne.specs.Tree.{constant}
-use Rattle.tree.proofs.Chain.{reads, ends-number, ends-call, ends-halt, ends-tail, places-halt, places-call}
+use Rattle.fields.proofs.Chain.{reads, ends-number, ends-call, ends-halt, ends-tail, places-halt, places-call}
 use Rattle.tree.proofs.declaration.constant.Statement.{statement}
 use Rattle.tree.proofs.declaration.constant.Tie as tie
 

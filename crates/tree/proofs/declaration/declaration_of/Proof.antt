@@ -5,8 +5,8 @@ use native.Mathlib.Omega.{arith}
 use Rattle.penne.specs.Read.{declKinds, declOf}
 use Rattle.penne.specs.Tree.{badDecl}
 use Rattle.tree.proofs.Statements.{decl-arm, decl-poison, none-below-5}
-use Rattle.tree.proofs.Counting.{pass-end}
-use Rattle.tree.proofs.Chain.{ends-tail}
+use Rattle.fields.proofs.Counting.{pass-end}
+use Rattle.fields.proofs.Chain.{ends-tail}
 use Rattle.tree.proofs.declaration.declaration_of.Statement.{statement}
 use Rattle.tree.proofs.declaration.declaration_of.Tie as tie
 

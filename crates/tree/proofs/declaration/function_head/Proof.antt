@@ -4,8 +4,8 @@ use borrow.Author.Needs.{needs}
 use native.Mathlib.Omega.{arith}
 use Rattle.penne.specs.Read.{readFunctionHead}
 use Rattle.penne.specs.Tree.{functionHead}
-use Rattle.tree.proofs.Counting.{pass-end, pass-call, pass-halt, pass-part, pass-stop, pass-places, stop-places}
-use Rattle.tree.proofs.Chain.{reads, ends-number, ends-tail}
+use Rattle.fields.proofs.Counting.{pass-end, pass-call, pass-halt, pass-part, pass-stop, pass-places, stop-places}
+use Rattle.fields.proofs.Chain.{reads, ends-number, ends-tail}
 use Rattle.tree.proofs.declaration.function_head.Statement.{statement}
 use Rattle.tree.proofs.declaration.function_head.Tie as tie
 

@@ -4,7 +4,7 @@ use borrow.Author.Needs.{needs}
 use native.Mathlib.Omega.{arith}
 use Rattle.penne.specs.Read.{readImport}
 use Rattle.penne.specs.Tree.{import}
-use Rattle.tree.proofs.Chain.{ends-call, ends-halt, ends-tail, ends-place}
+use Rattle.fields.proofs.Chain.{ends-call, ends-halt, ends-tail, ends-place}
 use Rattle.tree.proofs.declaration.import.Statement.{statement}
 use Rattle.tree.proofs.declaration.import.Tie as tie
 

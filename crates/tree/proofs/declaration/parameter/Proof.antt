@@ -4,8 +4,8 @@ use borrow.Author.Needs.{needs}
 use native.Mathlib.Omega.{arith}
 use Rattle.penne.specs.Read.{place, ident, readParam}
 use Rattle.tree.proofs.Statements.{entry-unread, entry-many, entry-in}
-use Rattle.tree.proofs.Counting.{pass-end, pass-part, pass-stop}
-use Rattle.tree.proofs.Chain.{ends-tail}
+use Rattle.fields.proofs.Counting.{pass-end, pass-part, pass-stop}
+use Rattle.fields.proofs.Chain.{ends-tail}
 use Rattle.tree.proofs.declaration.parameter.Statement.{statement}
 use Rattle.tree.proofs.declaration.parameter.Tie as tie
 

@@ -4,8 +4,8 @@ use borrow.Author.Needs.{needs}
 use native.Mathlib.Omega.{arith}
 use Rattle.penne.specs.Read.{readParam}
 use Rattle.penne.specs.Reader.{listed}
-use Rattle.tree.proofs.Counting.{pass-stop, pass-read, Listing, listing-start, listing-more, listing-halt, listing-done}
-use Rattle.tree.proofs.Chain.{reads, ends-number}
+use Rattle.fields.proofs.Counting.{pass-stop, pass-read, Listing, listing-start, listing-more, listing-halt, listing-done}
+use Rattle.fields.proofs.Chain.{reads, ends-number}
 use Rattle.tree.proofs.declaration.parameters.Statement.{statement}
 use Rattle.tree.proofs.declaration.parameters.Tie as tie
 

@@ -4,8 +4,8 @@ use borrow.Author.Needs.{needs}
 use native.Mathlib.Omega.{arith}
 use Rattle.penne.specs.Read.{readStructure}
 use Rattle.penne.specs.Tree.{structure}
-use Rattle.tree.proofs.Counting.{pass-end, pass-call, pass-halt, pass-part, pass-stop}
-use Rattle.tree.proofs.Chain.{reads, ends-number, ends-tail, ends-place}
+use Rattle.fields.proofs.Counting.{pass-end, pass-call, pass-halt, pass-part, pass-stop}
+use Rattle.fields.proofs.Chain.{reads, ends-number, ends-tail, ends-place}
 use Rattle.tree.proofs.declaration.structure.Statement.{statement}
 use Rattle.tree.proofs.declaration.structure.Tie as tie
 

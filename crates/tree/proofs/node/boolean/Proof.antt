@@ -4,7 +4,7 @@ use borrow.Author.Needs.{needs}
 use native.Mathlib.Omega.{arith}
 use Rattle.penne.specs.Read.{readBoolean}
 use Rattle.penne.specs.Tree.{boolean}
-use Rattle.tree.proofs.Chain.{reads, ends-number, ends-call, ends-halt, ends-tail, ends-place}
+use Rattle.fields.proofs.Chain.{reads, ends-number, ends-call, ends-halt, ends-tail, ends-place}
 use Rattle.tree.proofs.node.boolean.Statement.{statement}
 use Rattle.tree.proofs.node.boolean.Tie as tie
 

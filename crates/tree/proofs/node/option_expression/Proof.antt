@@ -2,7 +2,7 @@
 -- `tree::node/option_expression` meets its contract. Assumes nothing.
 use borrow.Author.Needs.{needs}
 use native.Mathlib.Omega.{arith}
-use Rattle.tree.proofs.Chain.{option-halt, option-none, option-some}
+use Rattle.fields.proofs.Chain.{option-halt, option-none, option-some}
 use Rattle.tree.proofs.node.option_expression.Statement.{statement}
 use Rattle.tree.proofs.node.option_expression.Tie as tie
 

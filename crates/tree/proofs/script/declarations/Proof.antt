@@ -7,7 +7,7 @@ use lib.ListN.{length}
 use Rattle.penne.specs.Read.{readDecl}
 use Rattle.tree.specs.Ends.{Known}
 use Rattle.tree.proofs.Noting.{passes-to}
-use Rattle.tree.proofs.Counting.{Listing, listing-start, listing-more, listing-halt, listing-done}
+use Rattle.fields.proofs.Counting.{Listing, listing-start, listing-more, listing-halt, listing-done}
 use Rattle.tree.proofs.script.declarations.Statement.{statement}
 use Rattle.tree.proofs.script.declarations.Tie as tie
 

@@ -3,8 +3,8 @@
 use borrow.Author.Needs.{needs}
 use native.Mathlib.Omega.{arith}
 use Rattle.penne.specs.Read.{toStms, readBody}
-use Rattle.tree.proofs.Counting.{pass-end, pass-call, pass-halt, pass-part, pass-stop}
-use Rattle.tree.proofs.Chain.{ends-tail}
+use Rattle.fields.proofs.Counting.{pass-end, pass-call, pass-halt, pass-part, pass-stop}
+use Rattle.fields.proofs.Chain.{ends-tail}
 use Rattle.tree.proofs.statement.body.Statement.{statement}
 use Rattle.tree.proofs.statement.body.Tie as tie
 

@@ -4,7 +4,7 @@ use borrow.Author.Needs.{needs}
 use native.Mathlib.Omega.{arith}
 use Rattle.penne.specs.Read.{readDeclaration}
 use Rattle.penne.specs.Tree.{declaration}
-use Rattle.tree.proofs.Chain.{ends-call, ends-halt, ends-tail, ends-place}
+use Rattle.fields.proofs.Chain.{ends-call, ends-halt, ends-tail, ends-place}
 use Rattle.tree.proofs.statement.declaration.Statement.{statement}
 use Rattle.tree.proofs.statement.declaration.Tie as tie
 

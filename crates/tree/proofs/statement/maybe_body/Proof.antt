@@ -4,8 +4,8 @@ use borrow.Author.Needs.{needs}
 use native.Mathlib.Omega.{arith}
 use Rattle.penne.specs.Read.{maybe}
 use Rattle.penne.specs.Tree.{ok, err}
-use Rattle.tree.proofs.Counting.{pass-end, pass-tail, either-stop, either-none, either-some}
-use Rattle.tree.proofs.Chain.{ends-tail}
+use Rattle.fields.proofs.Counting.{pass-end, pass-tail, either-stop, either-none, either-some}
+use Rattle.fields.proofs.Chain.{ends-tail}
 use Rattle.tree.proofs.statement.maybe_body.Statement.{statement}
 use Rattle.tree.proofs.statement.maybe_body.Tie as tie
 

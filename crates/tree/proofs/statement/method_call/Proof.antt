@@ -4,7 +4,7 @@ use borrow.Author.Needs.{needs}
 use native.Mathlib.Omega.{arith}
 use Rattle.penne.specs.Read.{toNodes, readMethodCall}
 use Rattle.penne.specs.Tree.{methodCall}
-use Rattle.tree.proofs.Chain.{reads, ends-number, ends-call, ends-halt, ends-tail}
+use Rattle.fields.proofs.Chain.{reads, ends-number, ends-call, ends-halt, ends-tail}
 use Rattle.tree.proofs.statement.method_call.Statement.{statement}
 use Rattle.tree.proofs.statement.method_call.Tie as tie
 

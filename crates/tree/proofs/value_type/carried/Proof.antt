@@ -2,7 +2,7 @@
 -- `tree::value_type/carried` meets its contract. Assumes nothing.
 use borrow.Author.Needs.{needs}
 use native.Mathlib.Omega.{arith}
-use Rattle.tree.proofs.Chain.{option-halt, option-none, option-some}
+use Rattle.fields.proofs.Chain.{option-halt, option-none, option-some}
 use Rattle.tree.proofs.value_type.carried.Statement.{statement}
 use Rattle.tree.proofs.value_type.carried.Tie as tie
 

@@ -2,7 +2,7 @@
 -- `tree::value_type/maybe_type` meets its contract. Assumes nothing.
 use borrow.Author.Needs.{needs}
 use native.Mathlib.Omega.{arith}
-use Rattle.tree.proofs.Chain.{maybe-halt, maybe-ok, maybe-err}
+use Rattle.fields.proofs.Chain.{maybe-halt, maybe-ok, maybe-err}
 use Rattle.tree.proofs.value_type.maybe_type.Statement.{statement}
 use Rattle.tree.proofs.value_type.maybe_type.Tie as tie
 

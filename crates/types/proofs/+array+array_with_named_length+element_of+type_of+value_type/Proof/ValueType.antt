@@ -11,7 +11,7 @@ use Rattle.types.proofs.Arms.{type-unread, type-deep, type-in}
 use Rattle.types.specs.Typing.{walkOf, faultOf}
 use Rattle.types.proofs.+array+array_with_named_length+element_of+type_of+value_type.Lts-value_type as lts
 use Rattle.types.proofs.+array+array_with_named_length+element_of+type_of+value_type.Proof.Common.{type-of-below, value-type-at}
-use Rattle.tree.proofs.number.below.Reads as below-reads
+use Rattle.fields.proofs.number.below.Reads as below-reads
 use Rattle.walk.proofs.state.Walk.moved.Reads as moved-reads
 use Rattle.types.proofs.type_of.Reads as type-of
 use Rattle.types.proofs.value_type.Reads as value-type

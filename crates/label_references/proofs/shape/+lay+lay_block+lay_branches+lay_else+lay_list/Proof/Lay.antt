@@ -8,15 +8,15 @@ use Rattle.penne.specs.Read.{stmtOf, stmtKinds}
 use Rattle.label_references.proofs.Laying.{lay-unread, lay-deep, lay-many, lay-arm, leaf-arm}
 use Rattle.label_references.proofs.shape.+lay+lay_block+lay_branches+lay_else+lay_list.Lts-lay as lts
 use Rattle.label_references.proofs.shape.+lay+lay_block+lay_branches+lay_else+lay_list.Proof.Common.{lay-at, lay-block-below, lay-branches-below}
-use Rattle.tree.proofs.number.below.Reads as below-reads
-use Rattle.tree.proofs.counts.count.Reads as count-reads
+use Rattle.fields.proofs.number.below.Reads as below-reads
+use Rattle.fields.proofs.counts.count.Reads as count-reads
 use Rattle.label_references.proofs.shape.lay.Reads as lay
 use Rattle.label_references.proofs.shape.lay_block.Reads as lay-block
 use Rattle.label_references.proofs.shape.lay_branches.Reads as lay-branches
 use Rattle.label_references.proofs.shape.lay_goto.Reads as lay-goto-reads
 use Rattle.label_references.proofs.shape.lay_label.Reads as lay-label-reads
 use Rattle.label_references.proofs.shape.lay_leaf.Reads as lay-leaf-reads
-use Rattle.tree.proofs.counts.statement_counts.Reads as statement-counts-reads
+use Rattle.fields.proofs.counts.statement_counts.Reads as statement-counts-reads
 
 abbrev calls : ℕ → lts.Claims
 calls t = (below-reads.Asked, below-reads.Learnt, statement-counts-reads.Asked, statement-counts-reads.Learnt, count-reads.Asked, count-reads.Learnt, lay-goto-reads.Asked, lay-goto-reads.Learnt, lay-label-reads.Asked, lay-label-reads.Learnt, lay-branches-below t, lay-branches.Post, lay-block-below t, lay-block.Post, lay-leaf-reads.Asked, lay-leaf-reads.Learnt)

@@ -10,7 +10,7 @@ use Rattle.label_references.proofs.shape.+lay+lay_block+lay_branches+la
 use Rattle.label_references.proofs.shape.laid.Reads as laid-reads
 use Rattle.label_references.proofs.shape.lay_block.Reads as lay-block
 use Rattle.label_references.proofs.shape.lay_list.Reads as lay-list
-use Rattle.tree.proofs.number.number.Reads as number-reads
+use Rattle.fields.proofs.number.number.Reads as number-reads
 use Rattle.label_references.proofs.shape.set_row.Reads as set-row-reads
 
 abbrev calls : ℕ → lts.Claims

@@ -7,15 +7,15 @@ use Prim.Native.Nat.{ℕ}
 use Rattle.penne.specs.Read.{readIf}
 use Rattle.label_references.proofs.Laying.{lays-leads, branches-unlaid, branches-laid}
 use Rattle.label_references.proofs.Leading.{leads-part, leads-unpart, operator-leads, operator-unled}
-use Rattle.tree.proofs.Chain.{ends-place}
+use Rattle.fields.proofs.Chain.{ends-place}
 use Rattle.label_references.proofs.shape.+lay+lay_block+lay_branches+lay_else+lay_list.Lts-lay_branches as lts
 use Rattle.label_references.proofs.shape.+lay+lay_block+lay_branches+lay_else+lay_list.Proof.Common.{lay-below, lay-branches-at, lay-else-below}
 use Rattle.tree.proofs.node.expression.Reads as expression-reads
 use Rattle.label_references.proofs.shape.lay.Reads as lay
 use Rattle.label_references.proofs.shape.lay_branches.Reads as lay-branches
 use Rattle.label_references.proofs.shape.lay_else.Reads as lay-else
-use Rattle.tree.proofs.number.number.Reads as number-reads
-use Rattle.tree.proofs.field.operator.Reads as operator-reads
+use Rattle.fields.proofs.number.number.Reads as number-reads
+use Rattle.fields.proofs.field.operator.Reads as operator-reads
 
 abbrev calls : ℕ → lts.Claims
 calls t = (number-reads.Asked, number-reads.Learnt, operator-reads.Asked, operator-reads.Learnt, expression-reads.Asked, expression-reads.Learnt, lay-below t, lay.Post, lay-else-below t, lay-else.Post)

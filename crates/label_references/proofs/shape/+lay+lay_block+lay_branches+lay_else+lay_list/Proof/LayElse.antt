@@ -7,11 +7,11 @@ use Prim.Native.Nat.{ℕ}
 use Rattle.label_references.proofs.Laying.{else-unread, else-none, else-placeless, else-unlaid, else-in}
 use Rattle.label_references.proofs.shape.+lay+lay_block+lay_branches+lay_else+lay_list.Lts-lay_else as lts
 use Rattle.label_references.proofs.shape.+lay+lay_block+lay_branches+lay_else+lay_list.Proof.Common.{lay-below, lay-else-at}
-use Rattle.tree.proofs.number.below.Reads as below-reads
+use Rattle.fields.proofs.number.below.Reads as below-reads
 use Rattle.label_references.proofs.shape.laid.Reads as laid-reads
 use Rattle.label_references.proofs.shape.lay.Reads as lay
 use Rattle.label_references.proofs.shape.lay_else.Reads as lay-else
-use Rattle.tree.proofs.number.number.Reads as number-reads
+use Rattle.fields.proofs.number.number.Reads as number-reads
 use Rattle.label_references.proofs.shape.set_row.Reads as set-row-reads
 
 abbrev calls : ℕ → lts.Claims

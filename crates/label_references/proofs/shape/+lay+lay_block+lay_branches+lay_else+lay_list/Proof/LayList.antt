@@ -10,7 +10,7 @@ use Rattle.label_references.proofs.shape.+lay+lay_block+lay_branches+la
 use Rattle.label_references.proofs.shape.+lay+lay_block+lay_branches+lay_else+lay_list.Proof.Common.{lay-below, lay-list-at}
 use Rattle.label_references.proofs.shape.lay.Reads as lay
 use Rattle.label_references.proofs.shape.lay_list.Reads as lay-list
-use Rattle.tree.proofs.number.number.Reads as number-reads
+use Rattle.fields.proofs.number.number.Reads as number-reads
 
 abbrev calls : ℕ → lts.Claims
 calls t = (number-reads.Asked, number-reads.Learnt, lay-below t, lay.Post)

@@ -6,13 +6,13 @@ use native.Mathlib.Omega.{arith}
 use Prim.Native.Nat.{ℕ}
 use Rattle.penne.specs.Read.{toNodes, readArrayLiteral}
 use Rattle.penne.specs.Tree.{arrayLiteral}
-use Rattle.tree.proofs.Chain.{reads, ends-number, ends-call, ends-halt, ends-tail, ends-place}
+use Rattle.fields.proofs.Chain.{reads, ends-number, ends-call, ends-halt, ends-tail, ends-place}
 use Rattle.tree.proofs.node.+array_literal+binary+bit_cast+deref+element+expression+expression_of+expressions+function_call+item+items+length_of_array+parenthesized+reference+step+steps+structural+type_cast+unary.Lts-array_literal as lts
 use Rattle.tree.proofs.node.+array_literal+binary+bit_cast+deref+element+expression+expression_of+expressions+function_call+item+items+length_of_array+parenthesized+reference+step+steps+structural+type_cast+unary.Proof.Common.{array-literal-at, expressions-below}
 use Rattle.tree.proofs.node.array_literal.Reads as array-literal
 use Rattle.tree.proofs.value_type.carried.Reads as carried-reads
 use Rattle.tree.proofs.node.expressions.Reads as expressions
-use Rattle.tree.proofs.number.number.Reads as number-reads
+use Rattle.fields.proofs.number.number.Reads as number-reads
 
 abbrev calls : ℕ → lts.Claims
 calls t = (number-reads.Asked, number-reads.Learnt, carried-reads.Asked, carried-reads.Learnt, expressions-below t, expressions.Post)

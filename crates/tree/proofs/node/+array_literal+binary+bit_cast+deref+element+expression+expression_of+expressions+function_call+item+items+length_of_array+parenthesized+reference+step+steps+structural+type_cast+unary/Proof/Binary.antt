@@ -6,12 +6,12 @@ use native.Mathlib.Omega.{arith}
 use Prim.Native.Nat.{ℕ}
 use Rattle.penne.specs.Read.{readBinary}
 use Rattle.penne.specs.Tree.{binary}
-use Rattle.tree.proofs.Chain.{ends-call, ends-halt, ends-tail, operator-halt, operator-call}
+use Rattle.fields.proofs.Chain.{ends-call, ends-halt, ends-tail, operator-halt, operator-call}
 use Rattle.tree.proofs.node.+array_literal+binary+bit_cast+deref+element+expression+expression_of+expressions+function_call+item+items+length_of_array+parenthesized+reference+step+steps+structural+type_cast+unary.Lts-binary as lts
 use Rattle.tree.proofs.node.+array_literal+binary+bit_cast+deref+element+expression+expression_of+expressions+function_call+item+items+length_of_array+parenthesized+reference+step+steps+structural+type_cast+unary.Proof.Common.{binary-at, expression-below}
 use Rattle.tree.proofs.node.binary.Reads as binary
 use Rattle.tree.proofs.node.expression.Reads as expression
-use Rattle.tree.proofs.field.operator.Reads as operator-reads
+use Rattle.fields.proofs.field.operator.Reads as operator-reads
 
 abbrev calls : ℕ → lts.Claims
 calls t = (operator-reads.Asked, operator-reads.Learnt, expression-below t, expression.Post)

@@ -6,13 +6,13 @@ use native.Mathlib.Omega.{arith}
 use Prim.Native.Nat.{ℕ}
 use Rattle.penne.specs.Read.{readBitCast}
 use Rattle.penne.specs.Tree.{bitCast}
-use Rattle.tree.proofs.Chain.{ends-call, ends-halt, ends-tail, places-halt, places-call}
+use Rattle.fields.proofs.Chain.{ends-call, ends-halt, ends-tail, places-halt, places-call}
 use Rattle.tree.proofs.node.+array_literal+binary+bit_cast+deref+element+expression+expression_of+expressions+function_call+item+items+length_of_array+parenthesized+reference+step+steps+structural+type_cast+unary.Lts-bit_cast as lts
 use Rattle.tree.proofs.node.+array_literal+binary+bit_cast+deref+element+expression+expression_of+expressions+function_call+item+items+length_of_array+parenthesized+reference+step+steps+structural+type_cast+unary.Proof.Common.{bit-cast-at, expression-below}
 use Rattle.tree.proofs.node.bit_cast.Reads as bit-cast
 use Rattle.tree.proofs.value_type.carried.Reads as carried-reads
 use Rattle.tree.proofs.node.expression.Reads as expression
-use Rattle.tree.proofs.field.two_places.Reads as two-places-reads
+use Rattle.fields.proofs.field.two_places.Reads as two-places-reads
 
 abbrev calls : ℕ → lts.Claims
 calls t = (two-places-reads.Asked, two-places-reads.Learnt, carried-reads.Asked, carried-reads.Learnt, expression-below t, expression.Post)

@@ -6,7 +6,7 @@ use native.Mathlib.Omega.{arith}
 use Prim.Native.Nat.{ℕ}
 use Rattle.penne.specs.Read.{readDeref}
 use Rattle.penne.specs.Tree.{deref}
-use Rattle.tree.proofs.Chain.{ends-call, ends-halt, ends-tail}
+use Rattle.fields.proofs.Chain.{ends-call, ends-halt, ends-tail}
 use Rattle.tree.proofs.node.+array_literal+binary+bit_cast+deref+element+expression+expression_of+expressions+function_call+item+items+length_of_array+parenthesized+reference+step+steps+structural+type_cast+unary.Lts-deref as lts
 use Rattle.tree.proofs.node.+array_literal+binary+bit_cast+deref+element+expression+expression_of+expressions+function_call+item+items+length_of_array+parenthesized+reference+step+steps+structural+type_cast+unary.Proof.Common.{deref-at, reference-below}
 use Rattle.tree.proofs.value_type.carried.Reads as carried-reads

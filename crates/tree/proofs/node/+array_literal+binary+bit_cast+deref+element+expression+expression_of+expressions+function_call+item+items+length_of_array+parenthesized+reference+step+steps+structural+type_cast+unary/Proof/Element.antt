@@ -6,10 +6,10 @@ use native.Mathlib.Omega.{arith}
 use Prim.Native.Nat.{ℕ}
 use Rattle.penne.specs.Read.{stepOf}
 use Rattle.penne.specs.Tree.{element}
-use Rattle.tree.proofs.Chain.{reads, ends-number, ends-call, ends-halt, ends-tail}
+use Rattle.fields.proofs.Chain.{reads, ends-number, ends-call, ends-halt, ends-tail}
 use Rattle.tree.proofs.node.+array_literal+binary+bit_cast+deref+element+expression+expression_of+expressions+function_call+item+items+length_of_array+parenthesized+reference+step+steps+structural+type_cast+unary.Lts-element as lts
 use Rattle.tree.proofs.node.+array_literal+binary+bit_cast+deref+element+expression+expression_of+expressions+function_call+item+items+length_of_array+parenthesized+reference+step+steps+structural+type_cast+unary.Proof.Common.{element-at, expression-below}
-use Rattle.tree.proofs.number.below.Reads as below-reads
+use Rattle.fields.proofs.number.below.Reads as below-reads
 use Rattle.tree.proofs.node.element.Reads as element
 use Rattle.tree.proofs.node.expression.Reads as expression
 

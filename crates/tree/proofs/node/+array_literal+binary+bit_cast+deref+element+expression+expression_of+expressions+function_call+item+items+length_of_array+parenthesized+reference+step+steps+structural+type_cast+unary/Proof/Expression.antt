@@ -5,10 +5,10 @@ use borrow.Author.Needs.{needs}
 use native.Mathlib.Omega.{arith}
 use Prim.Native.Nat.{ℕ}
 use Rattle.tree.proofs.Nodes.{expr-node}
-use Rattle.tree.proofs.Chain.{reads, node-unread, node-deep, node-in}
+use Rattle.fields.proofs.Chain.{reads, node-unread, node-deep, node-in}
 use Rattle.tree.proofs.node.+array_literal+binary+bit_cast+deref+element+expression+expression_of+expressions+function_call+item+items+length_of_array+parenthesized+reference+step+steps+structural+type_cast+unary.Lts-expression as lts
 use Rattle.tree.proofs.node.+array_literal+binary+bit_cast+deref+element+expression+expression_of+expressions+function_call+item+items+length_of_array+parenthesized+reference+step+steps+structural+type_cast+unary.Proof.Common.{expression-at, expression-of-below}
-use Rattle.tree.proofs.number.below.Reads as below-reads
+use Rattle.fields.proofs.number.below.Reads as below-reads
 use Rattle.tree.proofs.node.expression.Reads as expression
 use Rattle.tree.proofs.node.expression_of.Reads as expression-of
 

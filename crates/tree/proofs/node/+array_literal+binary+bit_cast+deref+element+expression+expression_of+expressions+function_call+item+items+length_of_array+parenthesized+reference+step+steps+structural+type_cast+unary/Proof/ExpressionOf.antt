@@ -18,7 +18,7 @@ use Rattle.tree.proofs.node.function_call.Reads as function-call
 use Rattle.tree.proofs.node.integer.Reads as integer-reads
 use Rattle.tree.proofs.node.length_of_array.Reads as length-of-array
 use Rattle.tree.proofs.node.parenthesized.Reads as parenthesized
-use Rattle.tree.proofs.poison.poison.Reads as poison-reads
+use Rattle.fields.proofs.poison.poison.Reads as poison-reads
 use Rattle.tree.proofs.node.size_of.Reads as size-of-reads
 use Rattle.tree.proofs.node.string.Reads as string-reads
 use Rattle.tree.proofs.node.structural.Reads as structural

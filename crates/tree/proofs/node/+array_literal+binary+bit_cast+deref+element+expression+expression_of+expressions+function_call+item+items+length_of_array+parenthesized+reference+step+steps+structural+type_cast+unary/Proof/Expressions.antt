@@ -7,12 +7,12 @@ use Prim.Native.Nat.{ℕ}
 use Rattle.penne.specs.Read.{read}
 use Rattle.penne.specs.Reader.{listed}
 use Rattle.penne.specs.Tree.{expr}
-use Rattle.tree.proofs.Chain.{reads, ends-number, ends-halt, ends-read, Passing, passing-start, passing-more, passing-halt, passing-done}
+use Rattle.fields.proofs.Chain.{reads, ends-number, ends-halt, ends-read, Passing, passing-start, passing-more, passing-halt, passing-done}
 use Rattle.tree.proofs.node.+array_literal+binary+bit_cast+deref+element+expression+expression_of+expressions+function_call+item+items+length_of_array+parenthesized+reference+step+steps+structural+type_cast+unary.Lts-expressions as lts
 use Rattle.tree.proofs.node.+array_literal+binary+bit_cast+deref+element+expression+expression_of+expressions+function_call+item+items+length_of_array+parenthesized+reference+step+steps+structural+type_cast+unary.Proof.Common.{expression-below, expressions-at}
 use Rattle.tree.proofs.node.expression.Reads as expression
 use Rattle.tree.proofs.node.expressions.Reads as expressions
-use Rattle.tree.proofs.number.number.Reads as number-reads
+use Rattle.fields.proofs.number.number.Reads as number-reads
 
 abbrev calls : ℕ → lts.Claims
 calls t = (number-reads.Asked, number-reads.Learnt, expression-below t, expression.Post)

@@ -6,14 +6,14 @@ use native.Mathlib.Omega.{arith}
 use Prim.Native.Nat.{ℕ}
 use Rattle.penne.specs.Read.{toNodes, readFunctionCall}
 use Rattle.penne.specs.Tree.{functionCall}
-use Rattle.tree.proofs.Chain.{reads, ends-number, ends-call, ends-halt, ends-tail}
+use Rattle.fields.proofs.Chain.{reads, ends-number, ends-call, ends-halt, ends-tail}
 use Rattle.tree.proofs.node.+array_literal+binary+bit_cast+deref+element+expression+expression_of+expressions+function_call+item+items+length_of_array+parenthesized+reference+step+steps+structural+type_cast+unary.Lts-function_call as lts
 use Rattle.tree.proofs.node.+array_literal+binary+bit_cast+deref+element+expression+expression_of+expressions+function_call+item+items+length_of_array+parenthesized+reference+step+steps+structural+type_cast+unary.Proof.Common.{expressions-below, function-call-at}
 use Rattle.tree.proofs.value_type.carried.Reads as carried-reads
 use Rattle.tree.proofs.node.expressions.Reads as expressions
 use Rattle.tree.proofs.node.function_call.Reads as function-call
-use Rattle.tree.proofs.number.number.Reads as number-reads
-use Rattle.tree.proofs.field.past_identifier.Reads as past-identifier-reads
+use Rattle.fields.proofs.number.number.Reads as number-reads
+use Rattle.fields.proofs.field.past_identifier.Reads as past-identifier-reads
 
 abbrev calls : ℕ → lts.Claims
 calls t = (past-identifier-reads.Asked, past-identifier-reads.Learnt, number-reads.Asked, number-reads.Learnt, carried-reads.Asked, carried-reads.Learnt, expressions-below t, expressions.Post)

@@ -6,13 +6,13 @@ use native.Mathlib.Omega.{arith}
 use Prim.Native.Nat.{ℕ}
 use Rattle.penne.specs.Read.{itemOf}
 use Rattle.penne.specs.Tree.{item, memberExpression}
-use Rattle.tree.proofs.Chain.{reads, ends-number, ends-call, ends-halt, ends-tail}
+use Rattle.fields.proofs.Chain.{reads, ends-number, ends-call, ends-halt, ends-tail}
 use Rattle.tree.proofs.node.+array_literal+binary+bit_cast+deref+element+expression+expression_of+expressions+function_call+item+items+length_of_array+parenthesized+reference+step+steps+structural+type_cast+unary.Lts-item as lts
 use Rattle.tree.proofs.node.+array_literal+binary+bit_cast+deref+element+expression+expression_of+expressions+function_call+item+items+length_of_array+parenthesized+reference+step+steps+structural+type_cast+unary.Proof.Common.{expression-below, item-at}
 use Rattle.tree.proofs.node.expression.Reads as expression
 use Rattle.tree.proofs.node.item.Reads as item
-use Rattle.tree.proofs.poison.maybe_identifier.Reads as maybe-identifier-reads
-use Rattle.tree.proofs.number.number.Reads as number-reads
+use Rattle.fields.proofs.poison.maybe_identifier.Reads as maybe-identifier-reads
+use Rattle.fields.proofs.number.number.Reads as number-reads
 
 abbrev calls : ℕ → lts.Claims
 calls t = (maybe-identifier-reads.Asked, maybe-identifier-reads.Learnt, number-reads.Asked, number-reads.Learnt, expression-below t, expression.Post)

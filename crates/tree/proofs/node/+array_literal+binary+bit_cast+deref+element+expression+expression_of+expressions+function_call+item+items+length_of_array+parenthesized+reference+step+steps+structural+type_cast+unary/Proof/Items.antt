@@ -6,12 +6,12 @@ use native.Mathlib.Omega.{arith}
 use Prim.Native.Nat.{ℕ}
 use Rattle.penne.specs.Read.{itemOf, read}
 use Rattle.penne.specs.Reader.{listed}
-use Rattle.tree.proofs.Chain.{reads, ends-number, ends-halt, ends-read, Passing, passing-start, passing-more, passing-halt, passing-done}
+use Rattle.fields.proofs.Chain.{reads, ends-number, ends-halt, ends-read, Passing, passing-start, passing-more, passing-halt, passing-done}
 use Rattle.tree.proofs.node.+array_literal+binary+bit_cast+deref+element+expression+expression_of+expressions+function_call+item+items+length_of_array+parenthesized+reference+step+steps+structural+type_cast+unary.Lts-items as lts
 use Rattle.tree.proofs.node.+array_literal+binary+bit_cast+deref+element+expression+expression_of+expressions+function_call+item+items+length_of_array+parenthesized+reference+step+steps+structural+type_cast+unary.Proof.Common.{item-below, items-at}
 use Rattle.tree.proofs.node.item.Reads as item
 use Rattle.tree.proofs.node.items.Reads as items
-use Rattle.tree.proofs.number.number.Reads as number-reads
+use Rattle.fields.proofs.number.number.Reads as number-reads
 
 abbrev calls : ℕ → lts.Claims
 calls t = (number-reads.Asked, number-reads.Learnt, item-below t, item.Post)

@@ -6,11 +6,11 @@ use native.Mathlib.Omega.{arith}
 use Prim.Native.Nat.{ℕ}
 use Rattle.penne.specs.Read.{readLengthOfArray}
 use Rattle.penne.specs.Tree.{lengthOfArray}
-use Rattle.tree.proofs.Chain.{ends-call, ends-halt, ends-tail, ends-place}
+use Rattle.fields.proofs.Chain.{ends-call, ends-halt, ends-tail, ends-place}
 use Rattle.tree.proofs.node.+array_literal+binary+bit_cast+deref+element+expression+expression_of+expressions+function_call+item+items+length_of_array+parenthesized+reference+step+steps+structural+type_cast+unary.Lts-length_of_array as lts
 use Rattle.tree.proofs.node.+array_literal+binary+bit_cast+deref+element+expression+expression_of+expressions+function_call+item+items+length_of_array+parenthesized+reference+step+steps+structural+type_cast+unary.Proof.Common.{length-of-array-at, reference-below}
 use Rattle.tree.proofs.node.length_of_array.Reads as length-of-array
-use Rattle.tree.proofs.number.number.Reads as number-reads
+use Rattle.fields.proofs.number.number.Reads as number-reads
 use Rattle.tree.proofs.node.reference.Reads as reference
 
 abbrev calls : ℕ → lts.Claims

@@ -6,11 +6,11 @@ use native.Mathlib.Omega.{arith}
 use Prim.Native.Nat.{ℕ}
 use Rattle.penne.specs.Read.{readParenthesized}
 use Rattle.penne.specs.Tree.{parenthesized}
-use Rattle.tree.proofs.Chain.{ends-call, ends-halt, ends-tail, ends-place}
+use Rattle.fields.proofs.Chain.{ends-call, ends-halt, ends-tail, ends-place}
 use Rattle.tree.proofs.node.+array_literal+binary+bit_cast+deref+element+expression+expression_of+expressions+function_call+item+items+length_of_array+parenthesized+reference+step+steps+structural+type_cast+unary.Lts-parenthesized as lts
 use Rattle.tree.proofs.node.+array_literal+binary+bit_cast+deref+element+expression+expression_of+expressions+function_call+item+items+length_of_array+parenthesized+reference+step+steps+structural+type_cast+unary.Proof.Common.{expression-below, parenthesized-at}
 use Rattle.tree.proofs.node.expression.Reads as expression
-use Rattle.tree.proofs.number.number.Reads as number-reads
+use Rattle.fields.proofs.number.number.Reads as number-reads
 use Rattle.tree.proofs.node.parenthesized.Reads as parenthesized
 
 abbrev calls : ℕ → lts.Claims

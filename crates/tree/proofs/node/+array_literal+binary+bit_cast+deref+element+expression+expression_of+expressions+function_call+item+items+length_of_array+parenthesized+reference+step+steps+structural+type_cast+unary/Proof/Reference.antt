@@ -7,14 +7,14 @@ use Prim.Native.Nat.{ℕ}
 use Rattle.penne.specs.Read.{toNodes, restOf}
 use Rattle.penne.specs.Tree.{reference}
 use Rattle.tree.proofs.Nodes.{ref-node}
-use Rattle.tree.proofs.Chain.{reads, ends-call, ends-halt, ends-tail, places-halt, places-call, node-unread, node-deep, node-in}
+use Rattle.fields.proofs.Chain.{reads, ends-call, ends-halt, ends-tail, places-halt, places-call, node-unread, node-deep, node-in}
 use Rattle.tree.proofs.node.+array_literal+binary+bit_cast+deref+element+expression+expression_of+expressions+function_call+item+items+length_of_array+parenthesized+reference+step+steps+structural+type_cast+unary.Lts-reference as lts
 use Rattle.tree.proofs.node.+array_literal+binary+bit_cast+deref+element+expression+expression_of+expressions+function_call+item+items+length_of_array+parenthesized+reference+step+steps+structural+type_cast+unary.Proof.Common.{reference-at, steps-below}
-use Rattle.tree.proofs.number.below.Reads as below-reads
-use Rattle.tree.proofs.poison.maybe_identifier.Reads as maybe-identifier-reads
+use Rattle.fields.proofs.number.below.Reads as below-reads
+use Rattle.fields.proofs.poison.maybe_identifier.Reads as maybe-identifier-reads
 use Rattle.tree.proofs.node.reference.Reads as reference
 use Rattle.tree.proofs.node.steps.Reads as steps
-use Rattle.tree.proofs.field.two_places.Reads as two-places-reads
+use Rattle.fields.proofs.field.two_places.Reads as two-places-reads
 
 abbrev calls : ℕ → lts.Claims
 calls t = (below-reads.Asked, below-reads.Learnt, two-places-reads.Asked, two-places-reads.Learnt, maybe-identifier-reads.Asked, maybe-identifier-reads.Learnt, steps-below t, steps.Post)

@@ -6,10 +6,10 @@ use native.Mathlib.Omega.{arith}
 use Prim.Native.Nat.{ℕ}
 use Rattle.penne.specs.Tree.{step}
 use Rattle.tree.proofs.Nodes.{step-node, step-element, step-member}
-use Rattle.tree.proofs.Chain.{reads, node-unread, node-deep, node-in}
+use Rattle.fields.proofs.Chain.{reads, node-unread, node-deep, node-in}
 use Rattle.tree.proofs.node.+array_literal+binary+bit_cast+deref+element+expression+expression_of+expressions+function_call+item+items+length_of_array+parenthesized+reference+step+steps+structural+type_cast+unary.Lts-step as lts
 use Rattle.tree.proofs.node.+array_literal+binary+bit_cast+deref+element+expression+expression_of+expressions+function_call+item+items+length_of_array+parenthesized+reference+step+steps+structural+type_cast+unary.Proof.Common.{element-below, step-at}
-use Rattle.tree.proofs.number.below.Reads as below-reads
+use Rattle.fields.proofs.number.below.Reads as below-reads
 use Rattle.tree.proofs.node.element.Reads as element
 use Rattle.tree.proofs.node.member.Reads as member-reads
 use Rattle.tree.proofs.node.step.Reads as step

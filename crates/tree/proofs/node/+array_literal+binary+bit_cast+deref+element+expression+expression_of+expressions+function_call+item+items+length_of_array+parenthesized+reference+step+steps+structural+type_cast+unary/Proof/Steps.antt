@@ -7,10 +7,10 @@ use Prim.Native.Nat.{ℕ}
 use Rattle.penne.specs.Read.{read}
 use Rattle.penne.specs.Reader.{listed}
 use Rattle.penne.specs.Tree.{step}
-use Rattle.tree.proofs.Chain.{reads, ends-number, ends-halt, ends-read, Passing, passing-start, passing-more, passing-halt, passing-done}
+use Rattle.fields.proofs.Chain.{reads, ends-number, ends-halt, ends-read, Passing, passing-start, passing-more, passing-halt, passing-done}
 use Rattle.tree.proofs.node.+array_literal+binary+bit_cast+deref+element+expression+expression_of+expressions+function_call+item+items+length_of_array+parenthesized+reference+step+steps+structural+type_cast+unary.Lts-steps as lts
 use Rattle.tree.proofs.node.+array_literal+binary+bit_cast+deref+element+expression+expression_of+expressions+function_call+item+items+length_of_array+parenthesized+reference+step+steps+structural+type_cast+unary.Proof.Common.{step-below, steps-at}
-use Rattle.tree.proofs.number.number.Reads as number-reads
+use Rattle.fields.proofs.number.number.Reads as number-reads
 use Rattle.tree.proofs.node.step.Reads as step
 use Rattle.tree.proofs.node.steps.Reads as steps
 

@@ -6,12 +6,12 @@ use native.Mathlib.Omega.{arith}
 use Prim.Native.Nat.{ℕ}
 use Rattle.penne.specs.Read.{toNodes, readStructural}
 use Rattle.penne.specs.Tree.{structural}
-use Rattle.tree.proofs.Chain.{ends-call, ends-halt, ends-tail, ends-place}
+use Rattle.fields.proofs.Chain.{ends-call, ends-halt, ends-tail, ends-place}
 use Rattle.tree.proofs.node.+array_literal+binary+bit_cast+deref+element+expression+expression_of+expressions+function_call+item+items+length_of_array+parenthesized+reference+step+steps+structural+type_cast+unary.Lts-structural as lts
 use Rattle.tree.proofs.node.+array_literal+binary+bit_cast+deref+element+expression+expression_of+expressions+function_call+item+items+length_of_array+parenthesized+reference+step+steps+structural+type_cast+unary.Proof.Common.{items-below, structural-at}
 use Rattle.tree.proofs.node.items.Reads as items
 use Rattle.tree.proofs.value_type.maybe_type.Reads as maybe-type-reads
-use Rattle.tree.proofs.number.number.Reads as number-reads
+use Rattle.fields.proofs.number.number.Reads as number-reads
 use Rattle.tree.proofs.node.structural.Reads as structural
 
 abbrev calls : ℕ → lts.Claims

@@ -6,11 +6,11 @@ use native.Mathlib.Omega.{arith}
 use Prim.Native.Nat.{ℕ}
 use Rattle.penne.specs.Read.{readTypeCast}
 use Rattle.penne.specs.Tree.{typeCast}
-use Rattle.tree.proofs.Chain.{ends-call, ends-halt, ends-tail, places-halt, places-call}
+use Rattle.fields.proofs.Chain.{ends-call, ends-halt, ends-tail, places-halt, places-call}
 use Rattle.tree.proofs.node.+array_literal+binary+bit_cast+deref+element+expression+expression_of+expressions+function_call+item+items+length_of_array+parenthesized+reference+step+steps+structural+type_cast+unary.Lts-type_cast as lts
 use Rattle.tree.proofs.node.+array_literal+binary+bit_cast+deref+element+expression+expression_of+expressions+function_call+item+items+length_of_array+parenthesized+reference+step+steps+structural+type_cast+unary.Proof.Common.{expression-below, type-cast-at}
 use Rattle.tree.proofs.node.expression.Reads as expression
-use Rattle.tree.proofs.field.two_places.Reads as two-places-reads
+use Rattle.fields.proofs.field.two_places.Reads as two-places-reads
 use Rattle.tree.proofs.node.type_cast.Reads as type-cast
 use Rattle.tree.proofs.value_type.value_type.Reads as value-type-reads
 

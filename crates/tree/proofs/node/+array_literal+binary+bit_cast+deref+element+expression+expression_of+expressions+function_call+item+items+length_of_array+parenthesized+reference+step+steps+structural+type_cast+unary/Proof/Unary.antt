@@ -6,11 +6,11 @@ use native.Mathlib.Omega.{arith}
 use Prim.Native.Nat.{ℕ}
 use Rattle.penne.specs.Read.{readUnary}
 use Rattle.penne.specs.Tree.{unary}
-use Rattle.tree.proofs.Chain.{ends-tail, operator-halt, operator-call}
+use Rattle.fields.proofs.Chain.{ends-tail, operator-halt, operator-call}
 use Rattle.tree.proofs.node.+array_literal+binary+bit_cast+deref+element+expression+expression_of+expressions+function_call+item+items+length_of_array+parenthesized+reference+step+steps+structural+type_cast+unary.Lts-unary as lts
 use Rattle.tree.proofs.node.+array_literal+binary+bit_cast+deref+element+expression+expression_of+expressions+function_call+item+items+length_of_array+parenthesized+reference+step+steps+structural+type_cast+unary.Proof.Common.{expression-below, unary-at}
 use Rattle.tree.proofs.node.expression.Reads as expression
-use Rattle.tree.proofs.field.operator.Reads as operator-reads
+use Rattle.fields.proofs.field.operator.Reads as operator-reads
 use Rattle.tree.proofs.node.unary.Reads as unary
 
 abbrev calls : ℕ → lts.Claims

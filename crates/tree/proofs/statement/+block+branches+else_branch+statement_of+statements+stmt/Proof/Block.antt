@@ -6,13 +6,13 @@ use native.Mathlib.Omega.{arith}
 use Prim.Native.Nat.{ℕ}
 use Rattle.penne.specs.Read.{toStms, readBlock}
 use Rattle.penne.specs.Tree.{block}
-use Rattle.tree.proofs.Counting.{pass-part, pass-stop, pass-tail}
-use Rattle.tree.proofs.Chain.{ends-place}
+use Rattle.fields.proofs.Counting.{pass-part, pass-stop, pass-tail}
+use Rattle.fields.proofs.Chain.{ends-place}
 use Rattle.tree.proofs.statement.+block+branches+else_branch+statement_of+statements+stmt.Lts-block as lts
 use Rattle.tree.proofs.statement.+block+branches+else_branch+statement_of+statements+stmt.Proof.Common.{block-at, statements-below}
 use Rattle.tree.proofs.statement.block.Reads as block
-use Rattle.tree.proofs.number.number.Reads as number-reads
-use Rattle.tree.proofs.counts.pass.Reads as pass-reads
+use Rattle.fields.proofs.number.number.Reads as number-reads
+use Rattle.fields.proofs.counts.pass.Reads as pass-reads
 use Rattle.tree.proofs.statement.statements.Reads as statements
 
 abbrev calls : ℕ → lts.Claims

@@ -6,16 +6,16 @@ use native.Mathlib.Omega.{arith}
 use Prim.Native.Nat.{ℕ}
 use Rattle.penne.specs.Read.{readIf}
 use Rattle.penne.specs.Tree.{ifElse}
-use Rattle.tree.proofs.Counting.{pass-call, pass-halt, pass-part, pass-stop, pass-tail, pass-operator, stop-operator}
-use Rattle.tree.proofs.Chain.{ends-place}
+use Rattle.fields.proofs.Counting.{pass-call, pass-halt, pass-part, pass-stop, pass-tail, pass-operator, stop-operator}
+use Rattle.fields.proofs.Chain.{ends-place}
 use Rattle.tree.proofs.statement.+block+branches+else_branch+statement_of+statements+stmt.Lts-branches as lts
 use Rattle.tree.proofs.statement.+block+branches+else_branch+statement_of+statements+stmt.Proof.Common.{branches-at, else-branch-below, stmt-below}
 use Rattle.tree.proofs.statement.branches.Reads as branches
 use Rattle.tree.proofs.statement.else_branch.Reads as else-branch
 use Rattle.tree.proofs.node.expression.Reads as expression-reads
-use Rattle.tree.proofs.number.number.Reads as number-reads
-use Rattle.tree.proofs.field.operator.Reads as operator-reads
-use Rattle.tree.proofs.counts.pass.Reads as pass-reads
+use Rattle.fields.proofs.number.number.Reads as number-reads
+use Rattle.fields.proofs.field.operator.Reads as operator-reads
+use Rattle.fields.proofs.counts.pass.Reads as pass-reads
 use Rattle.tree.proofs.statement.stmt.Reads as stmt
 
 abbrev calls : ℕ → lts.Claims

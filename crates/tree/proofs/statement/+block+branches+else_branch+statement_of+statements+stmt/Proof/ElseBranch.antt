@@ -6,14 +6,14 @@ use native.Mathlib.Omega.{arith}
 use Prim.Native.Nat.{ℕ}
 use Rattle.penne.specs.Read.{elseOf}
 use Rattle.penne.specs.Tree.{orElse}
-use Rattle.tree.proofs.Counting.{pass-ret, pass-part, pass-stop, pass-tail, either-stop, either-none, either-some}
-use Rattle.tree.proofs.Chain.{ends-place}
+use Rattle.fields.proofs.Counting.{pass-ret, pass-part, pass-stop, pass-tail, either-stop, either-none, either-some}
+use Rattle.fields.proofs.Chain.{ends-place}
 use Rattle.tree.proofs.statement.+block+branches+else_branch+statement_of+statements+stmt.Lts-else_branch as lts
 use Rattle.tree.proofs.statement.+block+branches+else_branch+statement_of+statements+stmt.Proof.Common.{else-branch-at, stmt-below}
-use Rattle.tree.proofs.number.below.Reads as below-reads
+use Rattle.fields.proofs.number.below.Reads as below-reads
 use Rattle.tree.proofs.statement.else_branch.Reads as else-branch
-use Rattle.tree.proofs.number.number.Reads as number-reads
-use Rattle.tree.proofs.counts.pass.Reads as pass-reads
+use Rattle.fields.proofs.number.number.Reads as number-reads
+use Rattle.fields.proofs.counts.pass.Reads as pass-reads
 use Rattle.tree.proofs.statement.stmt.Reads as stmt
 
 abbrev calls : ℕ → lts.Claims

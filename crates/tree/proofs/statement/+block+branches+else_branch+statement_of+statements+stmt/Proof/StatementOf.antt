@@ -7,8 +7,8 @@ use Prim.Native.Nat.{ℕ}
 use Rattle.penne.specs.Read.{stmtKinds, stmtOf}
 use Rattle.penne.specs.Tree.{loop, badStmt}
 use Rattle.tree.proofs.Statements.{stmt-arm, stmt-poison, none-below-8}
-use Rattle.tree.proofs.Counting.{pass-end}
-use Rattle.tree.proofs.Chain.{ends-tail, ends-place}
+use Rattle.fields.proofs.Counting.{pass-end}
+use Rattle.fields.proofs.Chain.{ends-tail, ends-place}
 use Rattle.tree.proofs.statement.+block+branches+else_branch+statement_of+statements+stmt.Lts-statement_of as lts
 use Rattle.tree.proofs.statement.+block+branches+else_branch+statement_of+statements+stmt.Proof.Common.{block-below, branches-below, statement-of-at}
 use Rattle.tree.proofs.statement.assignment.Reads as assignment-reads
@@ -17,9 +17,9 @@ use Rattle.tree.proofs.statement.branches.Reads as branches
 use Rattle.tree.proofs.statement.declaration.Reads as declaration-reads
 use Rattle.tree.proofs.statement.jump.Reads as jump-reads
 use Rattle.tree.proofs.statement.method_call.Reads as method-call-reads
-use Rattle.tree.proofs.number.number.Reads as number-reads
-use Rattle.tree.proofs.counts.pass.Reads as pass-reads
-use Rattle.tree.proofs.poison.poison.Reads as poison-reads
+use Rattle.fields.proofs.number.number.Reads as number-reads
+use Rattle.fields.proofs.counts.pass.Reads as pass-reads
+use Rattle.fields.proofs.poison.poison.Reads as poison-reads
 use Rattle.tree.proofs.statement.statement_of.Reads as statement-of
 
 abbrev calls : ℕ → lts.Claims

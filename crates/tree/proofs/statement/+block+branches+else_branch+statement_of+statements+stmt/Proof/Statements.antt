@@ -6,12 +6,12 @@ use native.Mathlib.Omega.{arith}
 use Prim.Native.Nat.{ℕ}
 use Rattle.penne.specs.Read.{readStmt}
 use Rattle.penne.specs.Reader.{listed}
-use Rattle.tree.proofs.Counting.{pass-stop, pass-read, Listing, listing-start, listing-more, listing-halt, listing-done}
-use Rattle.tree.proofs.Chain.{reads, ends-number}
+use Rattle.fields.proofs.Counting.{pass-stop, pass-read, Listing, listing-start, listing-more, listing-halt, listing-done}
+use Rattle.fields.proofs.Chain.{reads, ends-number}
 use Rattle.tree.proofs.statement.+block+branches+else_branch+statement_of+statements+stmt.Lts-statements as lts
 use Rattle.tree.proofs.statement.+block+branches+else_branch+statement_of+statements+stmt.Proof.Common.{statements-at, stmt-below}
-use Rattle.tree.proofs.number.number.Reads as number-reads
-use Rattle.tree.proofs.counts.pass.Reads as pass-reads
+use Rattle.fields.proofs.number.number.Reads as number-reads
+use Rattle.fields.proofs.counts.pass.Reads as pass-reads
 use Rattle.tree.proofs.statement.statements.Reads as statements
 use Rattle.tree.proofs.statement.stmt.Reads as stmt
 

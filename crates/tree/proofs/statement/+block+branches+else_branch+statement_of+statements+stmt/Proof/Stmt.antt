@@ -8,10 +8,10 @@ use Rattle.penne.specs.Tree.{stmt}
 use Rattle.tree.proofs.Statements.{stmt-unread, stmt-deep, stmt-many, stmt-in}
 use Rattle.tree.proofs.statement.+block+branches+else_branch+statement_of+statements+stmt.Lts-stmt as lts
 use Rattle.tree.proofs.statement.+block+branches+else_branch+statement_of+statements+stmt.Proof.Common.{statement-of-below, stmt-at}
-use Rattle.tree.proofs.number.below.Reads as below-reads
-use Rattle.tree.proofs.counts.count.Reads as count-reads
-use Rattle.tree.proofs.counts.pass.Reads as pass-reads
-use Rattle.tree.proofs.counts.statement_counts.Reads as statement-counts-reads
+use Rattle.fields.proofs.number.below.Reads as below-reads
+use Rattle.fields.proofs.counts.count.Reads as count-reads
+use Rattle.fields.proofs.counts.pass.Reads as pass-reads
+use Rattle.fields.proofs.counts.statement_counts.Reads as statement-counts-reads
 use Rattle.tree.proofs.statement.statement_of.Reads as statement-of
 use Rattle.tree.proofs.statement.stmt.Reads as stmt
 

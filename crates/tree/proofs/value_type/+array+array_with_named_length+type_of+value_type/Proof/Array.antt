@@ -9,7 +9,7 @@ use Rattle.tree.proofs.Types.{array-halt, array-is}
 use Rattle.tree.proofs.value_type.+array+array_with_named_length+type_of+value_type.Lts-array as lts
 use Rattle.tree.proofs.value_type.+array+array_with_named_length+type_of+value_type.Proof.Common.{array-at, value-type-below}
 use Rattle.tree.proofs.value_type.array.Reads as array
-use Rattle.tree.proofs.number.number.Reads as number-reads
+use Rattle.fields.proofs.number.number.Reads as number-reads
 use Rattle.tree.proofs.value_type.value_type.Reads as value-type
 
 abbrev calls : ℕ → lts.Claims

@@ -8,7 +8,7 @@ use Rattle.tree.proofs.Types.{named-halt, named-is}
 use Rattle.tree.proofs.value_type.+array+array_with_named_length+type_of+value_type.Lts-array_with_named_length as lts
 use Rattle.tree.proofs.value_type.+array+array_with_named_length+type_of+value_type.Proof.Common.{array-with-named-length-at, value-type-below}
 use Rattle.tree.proofs.value_type.array_with_named_length.Reads as array-with-named-length
-use Rattle.tree.proofs.field.past_identifier.Reads as past-identifier-reads
+use Rattle.fields.proofs.field.past_identifier.Reads as past-identifier-reads
 use Rattle.tree.proofs.value_type.value_type.Reads as value-type
 
 abbrev calls : ℕ → lts.Claims

@@ -9,7 +9,7 @@ use Rattle.tree.proofs.value_type.+array+array_with_named_length+type_o
 use Rattle.tree.proofs.value_type.+array+array_with_named_length+type_of+value_type.Proof.Common.{array-below, array-with-named-length-below, type-of-at, value-type-below}
 use Rattle.tree.proofs.value_type.array.Reads as array
 use Rattle.tree.proofs.value_type.array_with_named_length.Reads as array-with-named-length
-use Rattle.tree.proofs.field.past_identifier.Reads as past-identifier-reads
+use Rattle.fields.proofs.field.past_identifier.Reads as past-identifier-reads
 use Rattle.tree.proofs.value_type.type_of.Reads as type-of
 use Rattle.tree.proofs.value_type.value_type.Reads as value-type
 use Rattle.tree.proofs.value_type.word.Reads as word-reads

@@ -8,7 +8,7 @@ use mathlib.Core.Logic.{⊎-elim}
 use Rattle.tree.proofs.Types.{not-own, not-owned, type-unread, type-deep, type-own, type-in}
 use Rattle.tree.proofs.value_type.+array+array_with_named_length+type_of+value_type.Lts-value_type as lts
 use Rattle.tree.proofs.value_type.+array+array_with_named_length+type_of+value_type.Proof.Common.{type-of-below, value-type-at}
-use Rattle.tree.proofs.number.below.Reads as below-reads
+use Rattle.fields.proofs.number.below.Reads as below-reads
 use Rattle.tree.proofs.value_type.type_of.Reads as type-of
 use Rattle.tree.proofs.value_type.value_type.Reads as value-type
 

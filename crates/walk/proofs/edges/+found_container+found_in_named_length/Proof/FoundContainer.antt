@@ -7,7 +7,7 @@ use Prim.Native.Nat.{ℕ}
 use Rattle.walk.proofs.Finding.{type-unread, type-deep, type-array, type-length, type-arraylike, type-name, type-low, type-high}
 use Rattle.walk.proofs.edges.+found_container+found_in_named_length.Lts-found_container as lts
 use Rattle.walk.proofs.edges.+found_container+found_in_named_length.Proof.Common.{found-container-at, found-container-below, found-in-named-length-below}
-use Rattle.tree.proofs.number.below.Reads as below-reads
+use Rattle.fields.proofs.number.below.Reads as below-reads
 use Rattle.walk.proofs.edges.found_container.Reads as found-container
 use Rattle.walk.proofs.edges.found_in_named_length.Reads as found-in-named-length
 use Rattle.walk.proofs.edges.found_named.Reads as found-named-reads
