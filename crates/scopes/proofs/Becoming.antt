@@ -1,11 +1,13 @@
 -- The ways through what became of a local: asked, poisoned, pruned at a label.
-use mathlib.Core.Path.{_≡_, refl, sym, _∙_}
+use mathlib.Core.Path.{_≡_, refl, sym, subst, _∙_}
+use mathlib.Core.Bool.{Bool, true, false}
 use mathlib.Core.List.{List}
 use mathlib.Core.Option.{none}
 use Prim.Native.Nat.{ℕ, suc, _+_, _-_, _≤_, _<_}
 use native.Mathlib.Numerals.{add-two}
 use native.Mathlib.Decide.{ℕ-discrete}
 use native.Mathlib.Omega.{arith}
+use lib.Dec.{ltb}
 use lib.ListN.{length, getD, set}
 use borrow.Author.Tests.{lt-ltb, le-ltb}
 use Rattle.penne.specs.Tree.{Spot, Ident}
@@ -111,16 +113,20 @@ module _ {k note row place : ℕ} {w : List ℕ} where
   unfolding withPruned pruneUnless
   prune-early e z = record { kept = kept-all; holds = λ {i = i} goto h n l q. rw (lt-ltb (i .id) note (omega (arith, h .entries .at n .id))) h }
 
-  pub prune-twice : {id f : ℕ} → id ≡ cell w localId k → note ≤ id → f ≡ cell w localFate k → 1 < f → PrunesOne k note row place w w
-  unfolding pruneUnless
-  prune-twice {id} {f} e z q o = record {
+  pub prune-twice : {f : ℕ} → f ≡ cell w localFate k → 1 < f → PrunesOne k note row place w w
+  unfolding withPruned pruneUnless
+  prune-twice {f} q o = record {
     kept = kept-all;
-    holds = λ {p = p} {i = i} {l = l} goto h n a b.
+    holds = λ {s = s} {ls = ls} {layer = layer} {p = p} {next = next} {i = i} {l = l} goto h n a b.
         let (d, is) = tells-pruned (cell w localFate k) (cell w localGoto k) (omega arith) (h .fates .at n) in
         let c : Pruning Spot = record { variable = i .id; label = l; locationOfGoto = goto } in
         let same : withPruned p (prune c (p .prunedVariables)) ≡ p = pruned-already c p d (is-caught (i .id) p d is) in
-        rw (le-ltb (i .id) note (omega (arith, h .entries .at n .id)), same) h;
+        subst (λ (p′ : Prunings Spot). Holds s w ls layer p′ next) (sym (either c p same (ltb (i .id) note))) h;
   }
+    where
+      either : (c : Pruning Spot) (p : Prunings Spot) → withPruned p (prune c (p .prunedVariables)) ≡ p → (t : Bool) → withPruned p (pruneUnless t c (p .prunedVariables)) ≡ p
+      either c p e true = refl
+      either c p e false = e
 
   pub prune-now : {id f : ℕ} {w₁ w′ : List ℕ} → k < rows → row < rows → id ≡ cell w localId k → note ≤ id → f ≡ cell w localFate k → f ≤ 1 → w₁ ≡ set w (localFate + k) (row + 2) → w′ ≡ set w₁ (localGoto + k) place
       → PrunesOne k note row place w w′

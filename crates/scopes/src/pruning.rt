@@ -56,7 +56,7 @@ impl Scope {
     }
 }
 
-// "unless already pruned"
+// "unless already pruned", which most are where there are many gotos: so that is asked first
 fn prune(table: &mut [u32], k: usize, note: u32, label: usize, place: u32)
     ensures { λ _. ⌜ PrunesOne k note label place (now (table .entry)) (now (table .exit)) ⌝ }
 {
@@ -66,10 +66,10 @@ fn prune(table: &mut [u32], k: usize, note: u32, label: usize, place: u32)
     if 1024 <= label {
         return;
     }
-    if word(table, LOCAL_ID + k) < note {
+    if 1 < word(table, LOCAL_FATE + k) {
         return;
     }
-    if 1 < word(table, LOCAL_FATE + k) {
+    if word(table, LOCAL_ID + k) < note {
         return;
     }
     set_word(table, LOCAL_FATE + k, (label + 2) as u32);

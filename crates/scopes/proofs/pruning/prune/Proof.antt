@@ -2,6 +2,7 @@
 -- `scopes::pruning/prune` meets its contract. Assumes nothing.
 use borrow.Author.Needs.{needs}
 use native.Mathlib.Omega.{arith}
+use mathlib.Core.Path.{_∙_}
 use Rattle.scopes.proofs.Becoming.{prune-past, prune-high, prune-early, prune-twice, prune-now}
 use Rattle.scopes.proofs.pruning.prune.Statement.{statement}
 use Rattle.scopes.proofs.pruning.prune.Tie as tie
@@ -13,13 +14,16 @@ returns-2 : tie.Need-returns-2
 returns-2 c = prune-high (c .if2 .taken)
 
 returns-3 : tie.Need-returns-3
-returns-3 c = prune-early (c .before .word .ensures) (c .if3 .taken)
+returns-3 c = prune-twice (c .before .word .ensures) (c .if3 .taken)
 
 returns-4 : tie.Need-returns-4
-returns-4 c = prune-twice (c .before .before .before .before .word .ensures) (c .before .before .before .if3 .left) (c .before .word2 .ensures) (c .if4 .taken)
+returns-4 c = prune-early (c .before .word2 .ensures) (c .if4 .taken)
+
+same-length-3 : tie.Need-same-length-3
+same-length-3 c = (c .before .before .set-word2 .kept .0) ∙ (c .before .before .before .before .before .before .set-word .kept .0)
 
 returns-5 : tie.Need-returns-5
-returns-5 c = prune-now (c .before .before .before .before .before .before .before .before .before .before .before .before .before .before .before .if1 .left) (c .before .before .before .before .before .before .before .before .before .before .before .before .before .before .if2 .left) (c .before .before .before .before .before .before .before .before .before .before .before .before .word .ensures) (c .before .before .before .before .before .before .before .before .before .before .before .if3 .left) (c .before .before .before .before .before .before .before .before .before .word2 .ensures) (c .before .before .before .before .before .before .before .before .if4 .left) (c .before .before .before .before .before .before .set-word .ensures) (c .before .before .set-word2 .ensures)
+returns-5 c = prune-now (c .before .before .before .before .before .before .before .before .before .before .before .before .before .before .before .if1 .left) (c .before .before .before .before .before .before .before .before .before .before .before .before .before .before .if2 .left) (c .before .before .before .before .before .before .before .before .before .word2 .ensures) (c .before .before .before .before .before .before .before .before .if4 .left) (c .before .before .before .before .before .before .before .before .before .before .before .before .word .ensures) (c .before .before .before .before .before .before .before .before .before .before .before .if3 .left) (c .before .before .before .before .before .before .set-word .ensures) (c .before .before .set-word2 .ensures)
 
 pub prune-spec : {M : Type 1} → statement M
-prune-spec = tie.close (tie.spec returns returns-2 (λ c. search needs) (λ c κs. search needs) (λ c. search needs) returns-3 (λ c. search needs) (λ c κs. search needs) (λ c. search needs) returns-4 (λ c. search needs) (λ c. search needs) (λ c. search needs) (λ c κs. search needs) (λ c. search needs) (λ c κs. search needs) (λ c. search needs) returns-5)
+prune-spec = tie.close (tie.spec returns returns-2 (λ c. search needs) (λ c κs. search needs) (λ c. search needs) returns-3 (λ c. search needs) (λ c κs. search needs) (λ c. search needs) returns-4 (λ c. search needs) (λ c. search needs) (λ c. search needs) (λ c κs. search needs) (λ c. search needs) (λ c κs. search needs) same-length-3 returns-5)
