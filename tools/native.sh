@@ -1,6 +1,6 @@
 #!/bin/sh
 # Writes target/native/libhurdlebraid.a: the library that `rt staticlib hurdlebraid` builds, compiled for the machine that this runs on.
-# For `oracle compare` and `oracle perf` where that machine is not x86-64 (HURDLEBRAID_LIB=target/native); what users link is the archive of `rt staticlib`.
+# For `oracle compare` and `oracle perf` where that machine is not x86-64 (HURDLEBRAID_LIB=../../target/native); what users link is the archive of `rt staticlib`.
 # The toolchain hands the proved code to its clang as one LLVM module. Here that clang keeps a copy of the module, and the copy is compiled for this machine.
 set -e
 cd "$(dirname "$0")/.."
