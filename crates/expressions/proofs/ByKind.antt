@@ -14,7 +14,7 @@ use Rattle.penne.specs.Read.{Readers, exprOf, stepOf, ExprKind, exprKinds, kBad
 use Rattle.penne.specs.Write.{numB, bytesB, nodeB}
 use Rattle.penne.specs.State as S
 use Rattle.penne.specs.Variables.{analyzeNode}
-use Rattle.tree.proofs.Nodes.{bad-kind}
+use Rattle.nodes.proofs.Nodes.{bad-kind}
 use Rattle.answer.specs.Parts.{renumbered, part}
 use Rattle.walk.specs.declared.state.Walk.{Walk}
 use Rattle.walk.specs.Walking.{Ground, onward, sayPoison, Walks}

@@ -1,5 +1,3 @@
-pub mod Types
-pub mod Nodes
 pub mod Statements
 pub mod Scripts
 pub mod Unique

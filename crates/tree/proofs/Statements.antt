@@ -21,7 +21,7 @@ use Rattle.fields.specs.declared.counts.Passed.the-variants as P
 use Rattle.fields.specs.Answers.{cursor, Gives, Ends, countsOf, Counting, passedBy, Passes}
 use Rattle.fields.proofs.Chain.{reads, ends-number, ends-place, ends-tail, deep-ends, deep-halt}
 use Rattle.fields.proofs.Fields.{goes, getD-past}
-use Rattle.tree.proofs.Nodes.{up}
+use Rattle.nodes.proofs.Nodes.{up}
 use Rattle.fields.proofs.Counting.{pass-end, pass-tail, pass-call, pass-halt, pass-part, pass-stop, pass-ret, either-stop, either-none, either-some, count-stop, count-full, count-in}
 
 -- a table's entry from the last one on, where the default is the last one too

@@ -1,7 +1,5 @@
 // Declarations. They stand at nesting 1, so that 63 levels are left below them.
-use super::node::expression;
 use super::statement::maybe_body;
-use super::value_type::maybe_type;
 use fields::counts::Counted;
 use fields::counts::Counts;
 use fields::counts::Passed;
@@ -17,6 +15,8 @@ use fields::number::below;
 use fields::number::number;
 use fields::poison::maybe_identifier;
 use fields::poison::poison;
+use nodes::node::expression;
+use nodes::value_type::maybe_type;
 ghost use lib.ListN.{getD};
 ghost use Rattle.penne.specs.Reader.{listed};
 ghost use Rattle.penne.specs.Read.{readDecl, declOf, declKinds, kBadDecl, readConstant, readFunction, readFunctionHead, readStructure, readImport, readParam};

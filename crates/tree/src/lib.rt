@@ -1,6 +1,4 @@
 // The script tree, read and not kept: where each part ends, or the refusal that document 01's table gives.
-pub mod value_type; // types
-pub mod node; // expressions, references, steps
 pub mod statement; // statements and bodies
 pub mod declaration; // declarations
 pub mod ends; // where declarations end, noted once

@@ -1,9 +1,4 @@
 // Statements and bodies. `left` is how many levels of nesting are left.
-use super::node::expression;
-use super::node::expressions;
-use super::node::option_expression;
-use super::node::reference;
-use super::value_type::carried;
 use fields::counts::Counted;
 use fields::counts::Counts;
 use fields::counts::Passed;
@@ -16,6 +11,11 @@ use fields::number::Read;
 use fields::number::below;
 use fields::number::number;
 use fields::poison::poison;
+use nodes::node::expression;
+use nodes::node::expressions;
+use nodes::node::option_expression;
+use nodes::node::reference;
+use nodes::value_type::carried;
 ghost use lib.ListN.{getD};
 ghost use Rattle.penne.specs.Tree.{goto, label};
 ghost use Rattle.penne.specs.Reader.{listed};

@@ -21,7 +21,7 @@ use Rattle.fields.specs.declared.number.Read.{Read}
 use Rattle.fields.specs.declared.number.Read.the-variants.{Number, Refused}
 use Rattle.fields.specs.Answers.{cursor, numberOf, Gives}
 use Rattle.fields.proofs.Fields.{getD-past}
-use Rattle.tree.proofs.Types.{run}
+use Rattle.nodes.proofs.Types.{run}
 use Rattle.answer.specs.declared.wrote.Wrote.{Wrote}
 use Rattle.answer.specs.Out.{Put}
 use Rattle.walk.specs.declared.state.Walk.{Walk}

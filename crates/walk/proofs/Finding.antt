@@ -25,7 +25,7 @@ use Rattle.fields.specs.declared.counts.Counts as K
 use Rattle.fields.proofs.Fields.{getD-past}
 use Rattle.fields.specs.Answers.{cursor, numberOf, endOf, identifiedOf, Gives, Ends, Identifies}
 use Rattle.tree.proofs.Scripts.{forget-got}
-use Rattle.tree.proofs.Types.{run}
+use Rattle.nodes.proofs.Types.{run}
 use Rattle.fields.proofs.Numbers.{such-got as such-is}
 use Rattle.containers.specs.declared.containers.Found.{Found}
 use Rattle.containers.specs.declared.containers.Found.the-variants.{At, Nothing}

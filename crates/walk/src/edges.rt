@@ -16,7 +16,7 @@ use fields::number::below;
 use memory::layout::CONTAINERS;
 use memory::layout::CONTAINERS_END;
 use memory::layout::WORDS;
-use tree::value_type::value_type;
+use nodes::value_type::value_type;
 ghost use Prim.Native.Nat.{ℕ};
 ghost use mathlib.Core.Bool.{Bool};
 ghost use Rattle.penne.specs.Read.{readTy};

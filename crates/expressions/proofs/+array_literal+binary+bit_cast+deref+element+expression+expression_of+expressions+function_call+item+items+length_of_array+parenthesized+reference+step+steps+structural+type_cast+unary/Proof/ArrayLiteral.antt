@@ -18,7 +18,7 @@ use Rattle.expressions.proofs.+array_literal+binary+bit_cast+deref+elem
 use Rattle.expressions.proofs.+array_literal+binary+bit_cast+deref+element+expression+expression_of+expressions+function_call+item+items+length_of_array+parenthesized+reference+step+steps+structural+type_cast+unary.Proof.Common.{array-literal-at, expressions-below}
 use Rattle.expressions.proofs.array_id.Reads as array-id-reads
 use Rattle.expressions.proofs.array_literal.Reads as array-literal
-use Rattle.tree.proofs.value_type.carried.Reads as carried-reads
+use Rattle.nodes.proofs.value_type.carried.Reads as carried-reads
 use Rattle.walk.proofs.names.closed.Reads as closed-reads
 use Rattle.expressions.proofs.expressions.Reads as expressions
 use Rattle.walk.proofs.state.Walk.moved.Reads as moved-reads

@@ -15,7 +15,7 @@ use Rattle.expressions.proofs.Arms.{bit-cast-is}
 use Rattle.expressions.proofs.+array_literal+binary+bit_cast+deref+element+expression+expression_of+expressions+function_call+item+items+length_of_array+parenthesized+reference+step+steps+structural+type_cast+unary.Lts-bit_cast as lts
 use Rattle.expressions.proofs.+array_literal+binary+bit_cast+deref+element+expression+expression_of+expressions+function_call+item+items+length_of_array+parenthesized+reference+step+steps+structural+type_cast+unary.Proof.Common.{bit-cast-at, expression-below}
 use Rattle.expressions.proofs.bit_cast.Reads as bit-cast
-use Rattle.tree.proofs.value_type.carried.Reads as carried-reads
+use Rattle.nodes.proofs.value_type.carried.Reads as carried-reads
 use Rattle.expressions.proofs.expression.Reads as expression
 use Rattle.walk.proofs.state.Walk.moved.Reads as moved-reads
 use Rattle.answer.proofs.copy.then_head.Reads as then-head-reads

@@ -13,7 +13,7 @@ use Rattle.expressions.proofs.Onward.{on, leads-on}
 use Rattle.expressions.proofs.Arms.{deref-is}
 use Rattle.expressions.proofs.+array_literal+binary+bit_cast+deref+element+expression+expression_of+expressions+function_call+item+items+length_of_array+parenthesized+reference+step+steps+structural+type_cast+unary.Lts-deref as lts
 use Rattle.expressions.proofs.+array_literal+binary+bit_cast+deref+element+expression+expression_of+expressions+function_call+item+items+length_of_array+parenthesized+reference+step+steps+structural+type_cast+unary.Proof.Common.{deref-at, reference-below}
-use Rattle.tree.proofs.value_type.carried.Reads as carried-reads
+use Rattle.nodes.proofs.value_type.carried.Reads as carried-reads
 use Rattle.expressions.proofs.deref.Reads as deref
 use Rattle.walk.proofs.state.Walk.moved.Reads as moved-reads
 use Rattle.expressions.proofs.reference.Reads as reference

@@ -5,7 +5,7 @@ use borrow.Author.Needs.{needs}
 use native.Mathlib.Omega.{arith}
 use Prim.Native.Nat.{ℕ}
 use Rattle.fields.proofs.Chain.{reads}
-use Rattle.tree.proofs.Nodes.{expr-node}
+use Rattle.nodes.proofs.Nodes.{expr-node}
 use Rattle.walk.proofs.Leading.{walks, node-deep, node-unread, node-in}
 use Rattle.walk.proofs.Writing.{moved}
 use Rattle.expressions.proofs.Onward.{leads-moved}

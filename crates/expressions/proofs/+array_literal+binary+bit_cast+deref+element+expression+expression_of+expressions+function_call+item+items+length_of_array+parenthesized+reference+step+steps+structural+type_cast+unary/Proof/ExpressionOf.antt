@@ -5,7 +5,7 @@ use borrow.Author.Needs.{needs}
 use native.Mathlib.Omega.{arith}
 use Prim.Native.Nat.{ℕ}
 use Rattle.penne.specs.Read.{exprKinds, exprOf}
-use Rattle.tree.proofs.Nodes.{none-below-15}
+use Rattle.nodes.proofs.Nodes.{none-below-15}
 use Rattle.expressions.specs.Expressing.{is-signed, is-bits}
 use Rattle.expressions.proofs.ByKind.{walk-arm, walk-poison}
 use Rattle.expressions.proofs.+array_literal+binary+bit_cast+deref+element+expression+expression_of+expressions+function_call+item+items+length_of_array+parenthesized+reference+step+steps+structural+type_cast+unary.Lts-expression_of as lts

@@ -18,7 +18,7 @@ use Rattle.expressions.proofs.Names.{number-spelled, call-is, call-bad,
 use Rattle.expressions.proofs.+array_literal+binary+bit_cast+deref+element+expression+expression_of+expressions+function_call+item+items+length_of_array+parenthesized+reference+step+steps+structural+type_cast+unary.Lts-function_call as lts
 use Rattle.expressions.proofs.+array_literal+binary+bit_cast+deref+element+expression+expression_of+expressions+function_call+item+items+length_of_array+parenthesized+reference+step+steps+structural+type_cast+unary.Proof.Common.{expressions-below, function-call-at}
 use Rattle.expressions.proofs.call_head.Reads as call-head-reads
-use Rattle.tree.proofs.value_type.carried.Reads as carried-reads
+use Rattle.nodes.proofs.value_type.carried.Reads as carried-reads
 use Rattle.expressions.proofs.expressions.Reads as expressions
 use Rattle.expressions.proofs.function_call.Reads as function-call
 use Rattle.walk.proofs.state.Walk.moved.Reads as moved-reads

@@ -8,7 +8,7 @@ use Prim.Native.Nat.{ℕ}
 use Rattle.penne.specs.Read.{toNodes, restOf}
 use Rattle.penne.specs.Tree.{reference}
 use Rattle.fields.proofs.Chain.{reads}
-use Rattle.tree.proofs.Nodes.{ref-node}
+use Rattle.nodes.proofs.Nodes.{ref-node}
 use Rattle.walk.proofs.Leading.{walks, leads-places, leads-unplaces, leads-call, leads-end, node-deep, node-unread, node-in}
 use Rattle.walk.proofs.Copying.{spells-join, spelled-places}
 use Rattle.expressions.proofs.Onward.{on, leads-on}

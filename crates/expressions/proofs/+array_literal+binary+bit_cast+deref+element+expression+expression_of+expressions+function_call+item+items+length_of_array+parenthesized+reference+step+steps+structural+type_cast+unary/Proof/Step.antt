@@ -7,7 +7,7 @@ use Prim.Native.Nat.{ℕ}
 use Rattle.penne.specs.Read.{read}
 use Rattle.penne.specs.Tree.{step}
 use Rattle.fields.proofs.Chain.{reads}
-use Rattle.tree.proofs.Nodes.{step-node}
+use Rattle.nodes.proofs.Nodes.{step-node}
 use Rattle.walk.proofs.Leading.{walks, node-deep, node-unread, node-in}
 use Rattle.walk.proofs.Writing.{moved}
 use Rattle.expressions.proofs.Onward.{leads-moved}

@@ -10,7 +10,7 @@ use Rattle.label_references.proofs.Leading.{leads-part, leads-unpart, o
 use Rattle.fields.proofs.Chain.{ends-place}
 use Rattle.label_references.proofs.shape.+lay+lay_block+lay_branches+lay_else+lay_list.Lts-lay_branches as lts
 use Rattle.label_references.proofs.shape.+lay+lay_block+lay_branches+lay_else+lay_list.Proof.Common.{lay-below, lay-branches-at, lay-else-below}
-use Rattle.tree.proofs.node.expression.Reads as expression-reads
+use Rattle.nodes.proofs.node.expression.Reads as expression-reads
 use Rattle.label_references.proofs.shape.lay.Reads as lay
 use Rattle.label_references.proofs.shape.lay_branches.Reads as lay-branches
 use Rattle.label_references.proofs.shape.lay_else.Reads as lay-else

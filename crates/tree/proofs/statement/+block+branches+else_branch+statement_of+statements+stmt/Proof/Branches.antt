@@ -12,7 +12,7 @@ use Rattle.tree.proofs.statement.+block+branches+else_branch+statement_
 use Rattle.tree.proofs.statement.+block+branches+else_branch+statement_of+statements+stmt.Proof.Common.{branches-at, else-branch-below, stmt-below}
 use Rattle.tree.proofs.statement.branches.Reads as branches
 use Rattle.tree.proofs.statement.else_branch.Reads as else-branch
-use Rattle.tree.proofs.node.expression.Reads as expression-reads
+use Rattle.nodes.proofs.node.expression.Reads as expression-reads
 use Rattle.fields.proofs.number.number.Reads as number-reads
 use Rattle.fields.proofs.field.operator.Reads as operator-reads
 use Rattle.fields.proofs.counts.pass.Reads as pass-reads

@@ -11,7 +11,7 @@ use Rattle.walk.proofs.edges.+found_container+found_in_named_length.Pro
 use Rattle.walk.proofs.edges.found_container.Reads as found-container
 use Rattle.walk.proofs.edges.found_in_named_length.Reads as found-in-named-length
 use Rattle.walk.proofs.edges.found_named.Reads as found-named-reads
-use Rattle.tree.proofs.value_type.value_type.Reads as value-type-reads
+use Rattle.nodes.proofs.value_type.value_type.Reads as value-type-reads
 
 abbrev calls : ℕ → lts.Claims
 calls t = (found-container-below t, found-container.Post, value-type-reads.Asked, value-type-reads.Learnt, found-named-reads.Asked, found-named-reads.Learnt)
