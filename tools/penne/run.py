@@ -13,8 +13,8 @@ def text():
     out += ['use Rattle.penne.specs.%s as %s′' % (m, m) for m in specs]
     out += ['use Rattle.penne.proofs.%s as %s′' % (m, m) for m in ('Reach', 'Checks')]
     out += ['', 'unfoldable pub run : List ℕ → (bytes words work : ℕ) → Scoper′.Outcome',
-            'unfolding ' + ' '.join(n for m in specs for n in names('specs', m)), 'run s m n w = Scoper′.scoped s m n w',
+            'unfolding flatMap ' + ' '.join(n for m in specs for n in names('specs', m)), 'run s m n w = Scoper′.scoped s m n w',
             '', 'unfoldable pub runChecks : List ℕ → List (ℕ × ℕ) × List (ℕ × ℕ) × Bool',
-            'unfolding run flatMap ' + ' '.join(names('proofs', 'Reach') + names('proofs', 'Checks')), 'runChecks s = Checks′.besides s', '']
+            'unfolding run ' + ' '.join(names('proofs', 'Reach') + names('proofs', 'Checks')), 'runChecks s = Checks′.besides s', '']
     out.insert(2, 'use mathlib.Core.Bool.{Bool}')
     return '\n'.join(out)

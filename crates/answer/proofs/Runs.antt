@@ -1,6 +1,6 @@
 -- Numbers one after another: from a few values, and from a part of the tree.
 use mathlib.Core.Path.{_≡_, refl, sym, ap, _∙_}
-use mathlib.Core.List.{List, [], _∷_, _++_, append-nil, append-assoc}
+use mathlib.Core.List.{List, [], _∷_, _++_, append-nil, append-assoc, flatMap}
 use Prim.Native.Nat.{ℕ, zero, suc, _+_, _-_, _≤_, _<_}
 use native.Mathlib.Numerals.{add-one}
 use native.Mathlib.Decide.{decLt}
@@ -9,7 +9,7 @@ use lib.ListN.{length, take, drop, getD, length-drop, drop-of-length-le}
 use lib.Seq.{take-suc, take-all, take-nil, take-add, drop-drop}
 use borrow.Author.Tests.{lt-ltb, le-ltb}
 use Rattle.penne.specs.Reader.{Cur, Got, got, refused, num, nothing}
-use Rattle.penne.specs.Write.{numB, eachB}
+use Rattle.penne.specs.Write.{numB}
 use Rattle.fields.specs.declared.number.Read.{Read}
 use Rattle.fields.specs.declared.number.Read.the-variants.{Number, Refused}
 use Rattle.fields.specs.Answers.{cursor, numberOf, Gives}
@@ -25,32 +25,32 @@ put-same e p = rw e at p
 
 -- A FEW VALUES
 
-each-one-more : {A : Type 0} (f : A → List ℕ) (xs : List A) (x : A) → eachB f (xs ++ (x ∷ [])) ≡ eachB f xs ++ f x
-unfolding eachB
+each-one-more : {A : Type 0} (f : A → List ℕ) (xs : List A) (x : A) → flatMap f (xs ++ (x ∷ [])) ≡ flatMap f xs ++ f x
+unfolding flatMap
 each-one-more f [] x = append-nil (f x)
-each-one-more f (y ∷ xs) x = ap (λ (l : List ℕ). f y ++ l) (each-one-more f xs x) ∙ sym (append-assoc (f y) (eachB f xs) (f x))
+each-one-more f (y ∷ xs) x = ap (λ (l : List ℕ). f y ++ l) (each-one-more f xs x) ∙ sym (append-assoc (f y) (flatMap f xs) (f x))
 
 -- the loop: of n values the first i are written
 pub record Each (w : Wrote) (xs o₀ : List ℕ) (n i : ℕ) (c : Wrote) (o : List ℕ) : Type 0 where
   pub few : i ≤ n
-  pub put : Put w (eachB numB (take i xs)) o₀ c o
+  pub put : Put w (flatMap numB (take i xs)) o₀ c o
 
 pub each-start : {w : Wrote} {xs o₀ : List ℕ} {n : ℕ} {c : Wrote} {o : List ℕ} → Put w [] o₀ c o → Each w xs o₀ n 0 c o
-unfolding eachB
+unfolding flatMap
 each-start p = record { few = omega arith; put = p }
 
 module _ {w : Wrote} {xs o₀ : List ℕ} {n i : ℕ} {c : Wrote} {o : List ℕ} (e : Each w xs o₀ n i c o) where
   pub each-more : {c′ : Wrote} {o′ : List ℕ} → i < n → i < length xs → Put c (numB (getD xs i 0)) o c′ o′ → Each w xs o₀ n (i + 1) c′ o′
   each-more l h p = record {
     few = omega arith;
-    put = put-same (sym (ap (λ (k : ℕ). eachB numB (take k xs)) (add-one i) ∙ ap (eachB numB) (take-suc xs i 0 h) ∙ each-one-more numB (take i xs) (getD xs i 0))) (e .put ▸ p);
+    put = put-same (sym (ap (λ (k : ℕ). flatMap numB (take k xs)) (add-one i) ∙ ap (flatMap numB) (take-suc xs i 0 h) ∙ each-one-more numB (take i xs) (getD xs i 0))) (e .put ▸ p);
   }
 
-  pub each-done : n ≤ i → Put w (eachB numB (take n xs)) o₀ c o
-  each-done h = let f = e .few in let z : i ≡ n = omega arith in put-same (ap (λ (m : ℕ). eachB numB (take m xs)) z) (e .put)
+  pub each-done : n ≤ i → Put w (flatMap numB (take n xs)) o₀ c o
+  each-done h = let f = e .few in let z : i ≡ n = omega arith in put-same (ap (λ (m : ℕ). flatMap numB (take m xs)) z) (e .put)
 
-  pub each-out : i < n → length xs ≤ i → Put w (eachB numB (take n xs)) o₀ c o
-  each-out h k = put-same (ap (eachB numB) (take-all i xs k ∙ sym (take-all n xs (omega arith)))) (e .put)
+  pub each-out : i < n → length xs ≤ i → Put w (flatMap numB (take n xs)) o₀ c o
+  each-out h k = put-same (ap (flatMap numB) (take-all i xs k ∙ sym (take-all n xs (omega arith)))) (e .put)
 
 -- A PART OF THE TREE, AS IT IS
 

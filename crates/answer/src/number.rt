@@ -1,8 +1,9 @@
 // Numbers in their shortest form.
 use super::wrote::Wrote;
 use super::wrote::settled;
+ghost use mathlib.Core.List.{flatMap};
 ghost use lib.ListN.{take};
-ghost use Rattle.penne.specs.Write.{numB, eachB};
+ghost use Rattle.penne.specs.Write.{numB};
 ghost use Rattle.answer.specs.Out.{Front, Put};
 
 // To the front of a part.
@@ -43,7 +44,7 @@ pub fn then_number(out: &mut [u8], w: Wrote, value: u32) -> Wrote
 
 // The first numbers of a few, one after another.
 pub fn then_each(out: &mut [u8], w: Wrote, values: &[u32], count: usize) -> Wrote
-    ensures { λ r. ⌜ Put w (eachB numB (take count (now (values .entry)))) (now (out .entry)) r (now (out .exit)) ⌝ }
+    ensures { λ r. ⌜ Put w (flatMap numB (take count (now (values .entry)))) (now (out .entry)) r (now (out .exit)) ⌝ }
 {
     let mut c = settled(out, w);
     let mut i = 0;

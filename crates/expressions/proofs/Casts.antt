@@ -18,7 +18,7 @@ use Rattle.walk.specs.Walking.{Writes, Ground, Good, Is, onward, silently, say,
 use Rattle.walk.proofs.Leading.{told-fine, told-bad}
 use Rattle.walk.proofs.Writing.{out-is, rewound, instead}
 use Rattle.walk.proofs.Copying.{Spells, spells-is}
-use Rattle.expressions.proofs.Onward.{out-same}
+use Rattle.expression_parts.proofs.Onward.{out-same}
 
 -- the kind and the places are dropped with what was written of the type
 pub type-rewound : {s : Walk} {o l w : List ℕ} {a : Ground} {s₁ : Walk} {o₁ l₁ w₁ : List ℕ} {r : Walk} (xs : List ℕ) (x : Ty Spot) → Is s o l w a → Is s₁ o₁ l₁ w₁ (onward analyzeType (okB tyB) x (say xs a)) → Writes s₁ (s .wrote) r → Is r o₁ l₁ w₁ (silently analyzeType x a)

@@ -1,7 +1,1 @@
-pub mod Heading
-pub mod Onward
-pub mod Arms
-pub mod ByKind
-pub mod Arrays
 pub mod Casts
-pub mod Names

@@ -1,49 +1,46 @@
 // analyze of Expression, Array, Reference and ReferenceStep, which hold one another. `left` is how many levels of nesting are left.
 // Where a part cannot be read the walk stops there: the tree was read before, so that this does not happen.
-use answer::copy::then_copy;
 use answer::copy::then_head;
 use answer::copy::then_numbers;
 use answer::number::then_number;
+use expression_parts::array_id;
+use expression_parts::base;
+use expression_parts::boolean;
+use expression_parts::call_head;
+use expression_parts::integer;
+use expression_parts::member;
+use expression_parts::past_operand;
+use expression_parts::string;
 use fields::field::Identified;
-use fields::field::Identifier;
 use fields::field::operator;
-use fields::field::past_identifier;
-use fields::field::raw;
 use fields::field::read_identifier;
 use fields::field::two_places;
 use fields::number::Read;
 use fields::number::below;
 use fields::number::number;
 use fields::poison::maybe_identifier;
-use nodes::node::expression as past_expression;
 use nodes::value_type::carried;
 use types::Typed;
 use types::maybe_type;
 use types::value_type;
-use walk::fault::Fault;
 use walk::items::copy_poison;
 use walk::items::write_fault;
-use walk::items::write_identifier;
-use walk::items::write_ok;
-use walk::names::Named;
 use walk::names::Used;
 use walk::names::closed;
-use walk::names::numbered;
 use walk::names::opened;
 use walk::names::use_called;
-use walk::names::use_variable;
 use walk::state::Walk;
 ghost use Prim.Native.Nat.{ℕ};
 ghost use mathlib.Core.Bool.{false};
 ghost use mathlib.Core.List.{List};
 ghost use lib.ListN.{getD};
-ghost use Rattle.penne.specs.Reader.{num, listed};
-ghost use Rattle.penne.specs.Tree.{Spot, Carried, Expr, expr, ref, step};
-ghost use Rattle.penne.specs.Read.{ident, maybe, option, read, readTy, itemOf, stepOf, exprKinds, kBadExpr, exprOf, readBinary, readUnary, readBoolean, readInteger, readString, readArrayLiteral, readStructural, readParenthesized, readDeref, readBitCast, readTypeCast, readLengthOfArray, readSizeOf, readFunctionCall};
-ghost use Rattle.penne.specs.Write.{identB, maybeB, optionB, nodeB};
-ghost use Rattle.penne.specs.Variables.{analyzeBase, analyzeNode, analyzeOption};
+ghost use Rattle.penne.specs.Reader.{listed};
+ghost use Rattle.penne.specs.Tree.{expr, ref, step};
+ghost use Rattle.penne.specs.Read.{option, read, readTy, itemOf, stepOf, exprKinds, kBadExpr, exprOf, readBinary, readUnary, readArrayLiteral, readStructural, readParenthesized, readDeref, readBitCast, readTypeCast, readLengthOfArray, readSizeOf, readFunctionCall};
+ghost use Rattle.penne.specs.Write.{optionB, nodeB};
+ghost use Rattle.penne.specs.Variables.{analyzeNode, analyzeOption};
 ghost use Rattle.walk.specs.Walking.{onward, Walks};
-ghost use Rattle.expressions.specs.Expressing.{listWalk, Headed, Integer, arrayNumber, refusing, Written};
+ghost use Rattle.expression_parts.specs.Expressing.{listWalk};
 
 pub fn expression(
     tree: &[u8],
@@ -139,70 +136,6 @@ fn unary(
     expression(tree, answer, list, work, st.wrote(x).moved(a), left)
 }
 
-fn boolean(tree: &[u8], answer: &mut [u8], st: Walk) -> Walk
-    ensures { λ r. ⌜ ((l w : List ℕ) → Walks (now (tree .entry)) readBoolean (onward analyzeNode nodeB) st (now (answer .entry)) l w r (now (answer .exit)) l w) ⌝ }
-{
-    let at = st.at;
-    let value = below(tree, 2, at);
-    let Read::Number(_, a) = value else {
-        return st;
-    };
-    let place = number(tree, a);
-    let Read::Number(_, b) = place else {
-        return st;
-    };
-    let w = st.wrote;
-    let x = then_head(answer, w, 2, tree, at, b);
-    st.wrote(x).moved(b)
-}
-
-// A signed or a bit integer.
-fn integer(tree: &[u8], answer: &mut [u8], st: Walk, left: u32, kind: u32) -> Walk
-    ensures { λ r. ⌜ ((f : List ℕ → Spot → Carried Spot → Expr Spot) → Integer kind f → (l w : List ℕ) → Walks (now (tree .entry)) (readInteger f (readTy left false)) (onward analyzeNode nodeB) st (now (answer .entry)) l w r (now (answer .exit)) l w) ⌝ }
-{
-    let at = st.at;
-    let value = raw(tree, at, 16);
-    let Read::Number(_, a) = value else {
-        return st;
-    };
-    let place = number(tree, a);
-    let Read::Number(_, b) = place else {
-        return st;
-    };
-    let typed = carried(tree, st.script.names, b, left);
-    let Read::Number(_, c) = typed else {
-        return st;
-    };
-    let w = st.wrote;
-    let x = then_number(answer, w, kind);
-    let y = then_copy(answer, x, tree, at, a);
-    let z = then_numbers(answer, y, tree, a, c);
-    st.wrote(z).moved(c)
-}
-
-fn string(tree: &[u8], answer: &mut [u8], st: Walk) -> Walk
-    ensures { λ r. ⌜ ((l w : List ℕ) → Walks (now (tree .entry)) readString (onward analyzeNode nodeB) st (now (answer .entry)) l w r (now (answer .exit)) l w) ⌝ }
-{
-    let at = st.at;
-    let length = number(tree, at);
-    let Read::Number(n, a) = length else {
-        return st;
-    };
-    let text = raw(tree, a, n);
-    let Read::Number(_, b) = text else {
-        return st;
-    };
-    let place = number(tree, b);
-    let Read::Number(p, c) = place else {
-        return st;
-    };
-    let w = st.wrote;
-    let x = then_head(answer, w, 5, tree, at, a);
-    let y = then_copy(answer, x, tree, a, b);
-    let z = then_number(answer, y, p);
-    st.wrote(z).moved(c)
-}
-
 // Its id is the next one behind its elements.
 fn array_literal(
     tree: &[u8],
@@ -227,19 +160,6 @@ fn array_literal(
     let x = then_head(answer, w, 6, tree, at, b);
     let s = expressions(tree, answer, list, work, opened(st.wrote(x).moved(b)), left);
     array_id(tree, answer, closed(work, s, st))
-}
-
-fn array_id(tree: &[u8], answer: &mut [u8], st: Walk) -> Walk
-    ensures { λ r. ⌜ ((l w : List ℕ) → Walks (now (tree .entry)) num arrayNumber st (now (answer .entry)) l w r (now (answer .exit)) l w) ⌝ }
-{
-    let at = st.at;
-    let id = number(tree, at);
-    let Read::Number(_, a) = id else {
-        return st;
-    };
-    let w = st.wrote;
-    let x = then_number(answer, w, st.tables.next_id);
-    numbered(st.wrote(x).moved(a))
 }
 
 fn structural(
@@ -352,19 +272,6 @@ fn type_cast(
     }
 }
 
-fn past_operand(tree: &[u8], answer: &mut [u8], st: Walk, fault: Fault, left: u32) -> Walk
-    ensures { λ r. ⌜ ((l w : List ℕ) → Walks (now (tree .entry)) (read left expr) (refusing 15 fault) st (now (answer .entry)) l w r (now (answer .exit)) l w) ⌝ }
-{
-    let at = st.at;
-    let operand = past_expression(tree, st.script.names, at, left);
-    let Read::Number(_, a) = operand else {
-        return st;
-    };
-    let w = st.wrote;
-    let x = write_fault(answer, w, 15, fault);
-    st.wrote(x).moved(a)
-}
-
 fn length_of_array(
     tree: &[u8],
     answer: &mut [u8],
@@ -438,25 +345,6 @@ fn function_call(
             s.wrote(write_fault(answer, w, 15, fault))
         }
     }
-}
-
-// The kind of a call, its name, and the numbers behind it.
-pub fn call_head(
-    tree: &[u8],
-    answer: &mut [u8],
-    st: Walk,
-    kind: u32,
-    i: Identifier,
-    from: usize,
-    to: usize,
-) -> Walk
-    ensures { λ r. ⌜ Headed st kind i (now (tree .entry)) from to (now (answer .entry)) r (now (answer .exit)) ⌝ }
-{
-    let w = st.wrote;
-    let x = then_number(answer, w, kind);
-    let y = write_identifier(answer, x, i);
-    let z = then_numbers(answer, y, tree, from, to);
-    st.wrote(z).moved(to)
 }
 
 // A list of expressions.
@@ -565,44 +453,6 @@ pub fn reference(
     steps(tree, answer, list, work, s, left - 1)
 }
 
-// The base of a reference.
-fn base(tree: &[u8], answer: &mut [u8], list: &mut [u32], work: &mut [u32], st: Walk) -> Walk
-    ensures { λ r. ⌜ Walks (now (tree .entry)) (maybe ident) (onward analyzeBase (maybeB identB)) st (now (answer .entry)) (now (list .entry)) (now (work .entry)) r (now (answer .exit)) (now (list .exit)) (now (work .exit)) ⌝ }
-{
-    let at = st.at;
-    let tag = below(tree, 2, at);
-    let Read::Number(t, a) = tag else {
-        return st;
-    };
-    if t != 0 {
-        return copy_poison(tree, answer, st.moved(a), 1);
-    }
-    let one = read_identifier(tree, st.script.names, a);
-    let Identified::Is(i, b) = one else {
-        return st;
-    };
-    let used = use_variable(list, work, st, i, a);
-    written(answer, used, b)
-}
-
-// "Maybe identifier", as the name was looked up or declared; `at` is behind it.
-pub fn written(answer: &mut [u8], named: Named, at: usize) -> Walk
-    ensures { λ r. ⌜ Written named at (now (answer .entry)) r (now (answer .exit)) ⌝ }
-{
-    match named {
-        Named::As(s, i) => {
-            let w = s.wrote;
-            let x = write_ok(answer, w, i);
-            s.wrote(x).moved(at)
-        }
-        Named::Not(s, fault) => {
-            let w = s.wrote;
-            let x = write_fault(answer, w, 1, fault);
-            s.wrote(x).moved(at)
-        }
-    }
-}
-
 fn steps(
     tree: &[u8],
     answer: &mut [u8],
@@ -671,23 +521,6 @@ fn element(
     let w = st.wrote;
     let x = then_head(answer, w, 0, tree, at, a);
     expression(tree, answer, list, work, st.wrote(x).moved(a), left)
-}
-
-fn member(tree: &[u8], answer: &mut [u8], st: Walk) -> Walk
-    ensures { λ r. ⌜ ((l w : List ℕ) → Walks (now (tree .entry)) (stepOf (read 0) 1) (onward analyzeNode nodeB) st (now (answer .entry)) l w r (now (answer .exit)) l w) ⌝ }
-{
-    let at = st.at;
-    let identifier = past_identifier(tree, st.script.names, at);
-    let Read::Number(_, a) = identifier else {
-        return st;
-    };
-    let offset = number(tree, a);
-    let Read::Number(_, b) = offset else {
-        return st;
-    };
-    let w = st.wrote;
-    let x = then_head(answer, w, 1, tree, at, b);
-    st.wrote(x).moved(b)
 }
 
 pub fn option_expression(

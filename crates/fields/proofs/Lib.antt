@@ -1,6 +1,5 @@
 pub mod Numbers
 pub mod Chain
+pub mod Back
 pub mod Fields
 pub mod Counting
-pub mod Names
-pub mod Marks

@@ -3,4 +3,3 @@ pub mod number; // numbers, and numbers below a limit
 pub mod field; // names, identifiers, bytes, runs of places
 pub mod poison; // poisons, by the table of their fields
 pub mod counts; // what row 8 counts
-pub mod name_table; // the table of names, and parts of the tree compared

@@ -18,21 +18,22 @@ use Rattle.fields.specs.declared.counts.Passed.the-variants as P
 use Rattle.tree.specs.declared.script.Layout.{Layout}
 use Rattle.fields.specs.Answers.{cursor, countsOf, Passes}
 use Rattle.tree.specs.Script.{LaidOut}
-use Rattle.label_references.specs.declared.labels.Labels as L
+use Rattle.labels.specs.declared.Labels as L
 use Rattle.label_references.specs.declared.shape.Shaped.{Shaped}
 use Rattle.label_references.specs.declared.shape.Shaped.the-variants as Sh
 use Rattle.label_references.specs.declared.shape.Start.{Start}
 use Rattle.label_references.specs.declared.shape.Start.the-variants as St
 use Rattle.label_references.specs.declared.shape.Body as BodyType
 use Rattle.label_references.specs.declared.shape.Body.the-variants as B
-use Rattle.label_references.specs.Outcomes.{outcomes, labelsIn, statementsIn, bodyOf, bodyOutcomes, bodyLabels, outcomesDecls, labelsInDecls}
-use Rattle.label_references.specs.Table.{list, Rows, turned, Along, stop, step, Told, Named, Off}
-use Rattle.label_references.specs.Visit.{Held, Touches, Did, VisitsList}
+use Rattle.labels.specs.Outcomes.{outcomes, labelsIn, statementsIn, bodyOf, bodyOutcomes, bodyLabels, outcomesDecls, labelsInDecls}
+use Rattle.labels.specs.Table.{list, Rows, turned, Told, Off}
+use Rattle.scopes.specs.Labels.{Along, stop, step, Named}
+use Rattle.labels.specs.Visit.{Held, Touches, Did, VisitsList}
 use Rattle.label_references.specs.Lay.{Only, ListLaid, LaysList}
 use Rattle.label_references.specs.Pass.{StartOf, no-start, start-at, Starts, BodyLaid, no-body, body, LaysBody, fresh, Beyond, Decided, Decides, AllDecided, DecidesAll, Pass, uncounted}
-use Rattle.label_references.proofs.Along.{along-append, along-length, along-le, along-map}
-use Rattle.label_references.proofs.Rowing.{rows-le, rows-high}
-use Rattle.label_references.proofs.Visiting.{did-turned, labels-length}
+use Rattle.labels.proofs.Along.{along-append, along-length, along-le, along-map}
+use Rattle.labels.proofs.Rowing.{rows-le, rows-high}
+use Rattle.labels.proofs.Visiting.{did-turned, labels-length}
 use Rattle.label_references.proofs.Leading.{Leads, leads-bind, leads-ret, passes-here, leads-unpassed}
 use Rattle.label_references.proofs.Laying.{to-end, never-not, many-step}
 use Rattle.label_references.proofs.Growing.{Grown, grown-decl}

@@ -9,7 +9,7 @@ use lib.ListN.{length, getD, length-append}
 use Rattle.penne.specs.Tree.{Spot, Ident, Maybe, ok, err, expr, stmt, stmts, elseBranch, Stm, goto, label, noElse, orElse, Body, Decl, Param, import, badDecl}
 use Rattle.penne.specs.Reader.{Counts, Cur, Got, got, refused, Reader, _>>=_, ret, such, num, below, bytes, many, listed, plus, fits, counted, counting, tooDeep, nothing, aContainer, aFunction, anEntry, aStatement}
 use Rattle.penne.specs.Read.{place, ident, readPoison, either, maybe, option, readTy, read, toStms, StmtKind, kDeclaration, kAssignment, kMethodCall, kLoop, kGoto, kLabel, kIf, kBlock, kBadStmt, stmtKinds, stmtHead, stmtCounts, stmtOf, readStmt, elseOf, readDeclaration, readAssignment, readMethodCall, readJump, readIf, readBlock, readBody, readParam, DeclKind, kConstant, kFunction, kFunctionHead, kStructure, kImport, kBadDecl, declKinds, declHead, declCounts, declOf, readDecl, readConstant, readFunction, readFunctionHead, readStructure, readImport}
-use Rattle.label_references.specs.Outcomes.{labelsIn, statementsIn, bodyOf, bodyLabels, labelsInDecls}
+use Rattle.labels.specs.Outcomes.{labelsIn, statementsIn, bodyOf, bodyLabels, labelsInDecls}
 use Rattle.tree.specs.declared.script.Layout.{Layout}
 use Rattle.fields.specs.Answers.{cursor}
 use Rattle.tree.specs.Script.{LaidOut}

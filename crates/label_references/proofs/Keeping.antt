@@ -10,7 +10,7 @@ use lib.ListN.{length, getD, take, drop}
 use Rattle.penne.specs.Tree.{Spot, Ident, Poison, poison, earlier, Maybe, ok, err, Ty, Kind, expr, ref, step, item, one, Node, signed, bits, badExpr, reference, stmt, Stm, goto, label}
 use Rattle.penne.specs.Reader.{Counts, Cur, Got, got, refused, Reader, _>>=_, ret, such, num, groups, lastGroup, moved, below, raw, bytes, many, listed, tooDeep, counting, counted}
 use Rattle.penne.specs.Read.{place, name, ident, poisonFields, poisonOf, readPoison, either, maybe, option, TyKind, kPlain, kArray, kNamedLength, kArraylike, kStruct, kWord, kUnresolved, kNameless, kPointer, kView, tyKinds, tyOf, readTy, toNodes, Readers, itemOf, readBinary, readUnary, readBoolean, readInteger, readString, readArrayLiteral, readStructural, readParenthesized, readDeref, readBitCast, readTypeCast, readLengthOfArray, readSizeOf, readFunctionCall, ExprKind, kBinary, kUnary, kBoolean, kSigned, kBits, kString, kArrayLiteral, kStructural, kParenthesized, kDeref, kBitCast, kTypeCast, kLengthOfArray, kSizeOf, kFunctionCall, kBadExpr, exprKinds, exprOf, stepOf, head, restOf, read, stmtKinds, stmtOf, kBadStmt, readDeclaration, readAssignment, readMethodCall}
-use Rattle.label_references.specs.Table.{Leaf, declares, assigns, calls, loops, bad}
+use Rattle.labels.specs.Table.{Leaf, declares, assigns, calls, loops, bad}
 use Rattle.fields.proofs.Chain.{after}
 use Rattle.label_references.proofs.Leading.{Leads, leads-bind, leads-none, leads-ret}
 

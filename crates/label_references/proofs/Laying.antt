@@ -27,9 +27,9 @@ use Rattle.fields.proofs.Counting.{fitted, counting-fits}
 use Rattle.tree.proofs.Statements.{kind-value, stmt-unread, stmt-deep, stmt-many}
 use Rattle.label_references.specs.declared.shape.Shaped.{Shaped}
 use Rattle.label_references.specs.declared.shape.Shaped.the-variants.{To, Not}
-use Rattle.label_references.specs.Table.{Leaf, Row, Part, single, list, Rows, leaf-row, goto-row, label-row, if-row, else-row, block-row, no-rows, more-rows, turned, Off}
+use Rattle.labels.specs.Table.{Leaf, Row, Part, single, list, Rows, leaf-row, goto-row, label-row, if-row, else-row, block-row, no-rows, more-rows, turned, Off}
 use Rattle.label_references.specs.Lay.{Only, SetsRow, Laid, Lays, LaysKind, LaysLeaf, LaysElse, ListLaid, LaysList, EndsAt}
-use Rattle.label_references.proofs.Rowing.{rows-le, rows-lt, rows-high, rows-below, SameRow, rows-same}
+use Rattle.labels.proofs.Rowing.{rows-le, rows-lt, rows-high, rows-below, SameRow, rows-same}
 use Rattle.label_references.proofs.Keeping.{leaf-kind}
 use Rattle.label_references.proofs.Leading.{Leads, leads-none, leads-same, leads-ret, leads-bind, leads-part, leads-unpart, leads-read, leads-unread, leads-ident, leads-unident, passes-here, leads-never}
 

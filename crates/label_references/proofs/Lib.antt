@@ -1,7 +1,3 @@
-pub mod Along
-pub mod Rowing
-pub mod Finding
-pub mod Visiting
 pub mod Leading
 pub mod Laying
 pub mod Keeping

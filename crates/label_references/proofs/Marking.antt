@@ -13,8 +13,8 @@ use Rattle.penne.specs.Find.{first, firstNamed, resolved}
 use Rattle.penne.specs.Tree.{Spot, Ident, poison, StmSort, stmt, Stm, nil′, cons′, declaration, assignment, methodCall, loop, goto, label, ifElse, block, badStmt, noElse, orElse, stmts, Maybe, ok, err, Body, Decl, constant, function, functionHead, structure, import, badDecl}
 use Rattle.penne.specs.Labels.{Labels, labels, useLabel, declareLabel, declared, popScope, labelsBody, labelsDecl, labelsDecls, labelReferences}
 use Rattle.penne.proofs.Searching.{first-hit, first-miss}
-use Rattle.label_references.specs.Outcomes.{gotoWord, labelWord, outcomes, labelsIn, statementsIn, bodyOf, bodyOutcomes, bodyLabels, outcomesDecls, labelsInDecls}
-use Rattle.label_references.specs.Table.{Along, stop, step}
+use Rattle.labels.specs.Outcomes.{gotoWord, labelWord, outcomes, labelsIn, statementsIn, bodyOf, bodyOutcomes, bodyLabels, outcomesDecls, labelsInDecls}
+use Rattle.scopes.specs.Labels.{Along, stop, step}
 use Rattle.label_references.specs.Marked.{placeOf, markedGoto, markedLabel, rest, marked, markedBody, markedDecl, markedDecls, Numbered, Known, none-known, one-known}
 use Rattle.label_references.proofs.Growing.{labels-few}
 use Rattle.tree.specs.declared.script.Layout.{Layout}

@@ -22,7 +22,7 @@ use Rattle.fields.proofs.Counting.{fitted, counting-fits}
 use Rattle.tree.proofs.Statements.{kind-value, decl-unread, decl-many}
 use Rattle.label_references.specs.declared.shape.Start.{Start}
 use Rattle.label_references.specs.declared.shape.Start.the-variants as St
-use Rattle.label_references.specs.Outcomes.{statementsIn, bodyOf}
+use Rattle.labels.specs.Outcomes.{statementsIn, bodyOf}
 use Rattle.label_references.specs.Pass.{StartOf, no-start, start-at, Starts}
 use Rattle.label_references.proofs.Leading.{Leads, leads-none, leads-same, leads-ret, leads-bind, passes-here, leads-never}
 use Rattle.label_references.proofs.Keeping.{Keeps, keeps-num, keeps-below, keeps-place, keeps-ident, keeps-bytes, keeps-poison, keeps-maybe, keeps-option, keeps-ty, keeps-read}

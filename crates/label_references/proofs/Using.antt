@@ -8,11 +8,12 @@ use lib.ListN.{length, getD}
 use Rattle.penne.specs.Tree.{Spot, Ident}
 use Rattle.tree.specs.declared.script.Layout.{Layout}
 use Rattle.tree.specs.Script.{LaidOut}
-use Rattle.label_references.specs.Outcomes.{outcomesDecls, labelsInDecls}
-use Rattle.label_references.specs.Table.{Along, stop, step, Told, Named}
-use Rattle.label_references.specs.Visit.{Shows}
+use Rattle.labels.specs.Outcomes.{outcomesDecls, labelsInDecls}
+use Rattle.labels.specs.Table.{Told}
+use Rattle.scopes.specs.Labels.{Along, stop, step, Named}
+use Rattle.labels.specs.Visit.{Shows}
 use Rattle.label_references.specs.Pass.{fresh, Pass}
-use Rattle.label_references.proofs.Along.{along-length, along-le}
+use Rattle.labels.proofs.Along.{along-length, along-le}
 use Rattle.label_references.proofs.Growing.{statements-few}
 
 told-nth : {w os : List ℕ} {k n : ℕ} (i : ℕ) → Along (Told w) k os n → k ≤ i → i < n → getD w i 0 ≡ getD os (i - k) 0

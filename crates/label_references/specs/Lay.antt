@@ -9,7 +9,7 @@ use Rattle.fields.specs.Answers.{cursor, countsOf}
 use Rattle.fields.specs.declared.counts.Counts as C
 use Rattle.label_references.specs.declared.shape.Shaped.{Shaped}
 use Rattle.label_references.specs.declared.shape.Shaped.the-variants.{To}
-use Rattle.label_references.specs.Table.{Leaf, Row, single, list, Rows, turned, Off}
+use Rattle.labels.specs.Table.{Leaf, Row, single, list, Rows, turned, Off}
 
 -- nothing is changed but the rows from k to k′
 pub record Only (k k′ : ℕ) (w w′ : List ℕ) : Type 0 where

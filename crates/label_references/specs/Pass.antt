@@ -16,8 +16,9 @@ use Rattle.label_references.specs.declared.shape.Start.{Start}
 use Rattle.label_references.specs.declared.shape.Start.the-variants as St
 use Rattle.label_references.specs.declared.shape.Body.{Body}
 use Rattle.label_references.specs.declared.shape.Body.the-variants as B
-use Rattle.label_references.specs.Outcomes.{bodyOf, bodyOutcomes, bodyLabels, outcomesDecls, labelsInDecls}
-use Rattle.label_references.specs.Table.{list, Rows, turned, Along, Told, Named, Off}
+use Rattle.labels.specs.Outcomes.{bodyOf, bodyOutcomes, bodyLabels, outcomesDecls, labelsInDecls}
+use Rattle.labels.specs.Table.{list, Rows, turned, Told, Off}
+use Rattle.scopes.specs.Labels.{Along, Named}
 use Rattle.label_references.specs.Lay.{Only}
 
 -- where the statements of the declaration x begin, that is read as far as d; k statements are counted before it

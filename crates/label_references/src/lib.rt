@@ -2,7 +2,6 @@
 //
 // Statements are visited last to first, against the order in which they are read. So a function's statements are first laid out in a table, each with the one before it and the last one inside it.
 pub mod shape; // the table of statements
-pub mod labels; // labels in scope, and the visit
 
 use fields::counts::Counts;
 use fields::counts::Passed;

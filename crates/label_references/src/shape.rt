@@ -31,7 +31,6 @@ ghost use Rattle.penne.specs.Tree.{goto, label};
 ghost use Rattle.penne.specs.Reader.{listed};
 ghost use Rattle.penne.specs.Read.{readStmt, readJump, readIf, readBlock, elseOf, readDecl, readFunction};
 ghost use Rattle.fields.specs.Answers.{cursor, countsOf};
-ghost use Rattle.label_references.specs.Visit.{Shows};
 ghost use Rattle.label_references.specs.Pass.{Starts, LaysBody};
 ghost use Rattle.label_references.specs.Lay.{SetsRow, Lays, LaysKind, LaysLeaf, LaysElse, LaysList, EndsAt};
 
@@ -361,17 +360,4 @@ fn set_row(work: &mut [u32], k: u32, kind: u32, previous: u32, inside: u32, word
     set_word(work, SHAPES + SHAPE_KIND + row, kind);
     set_word(work, SHAPES + SHAPE_PREVIOUS + row, previous);
     set_word(work, SHAPES + SHAPE_INSIDE + row, inside);
-}
-
-// A statement's word in the column that begins at `from`.
-pub fn shown(work: &[u32], from: usize, k: u32) -> u32
-    ensures { λ r. ⌜ Shows (now (work .entry)) from k r ⌝ }
-{
-    if 2048 <= k {
-        return 0;
-    }
-    if 12288 < from {
-        return 0;
-    }
-    word(work, from + k as usize)
 }

@@ -14,7 +14,8 @@ use Rattle.penne.specs.Scopes as Q
 use Rattle.penne.specs.Variables as V′
 use Rattle.penne.proofs.Booleans.{true-false}
 use Rattle.penne.proofs.Steady.{isSome, steady-node, steady-base, steady-type}
-use Rattle.penne.proofs.Keeps.{Grow, grow-steady, g-stm, newScope}
+use Rattle.penne.proofs.Keeps.{Grow, grow-steady, g-stm}
+use Rattle.penne.specs.Scopes.{newScope}
 use Rattle.penne.proofs.Looks.{Typed, isOk, stays-type}
 use Rattle.penne.proofs.Replies.{isBase}
 

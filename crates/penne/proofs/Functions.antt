@@ -26,7 +26,8 @@ use Rattle.penne.proofs.Beside.{Beside, bNil, bCons}
 use Rattle.penne.proofs.Looks.{looked-maybe, looked-option}
 use Rattle.penne.proofs.Waiting.{idsIn}
 use Rattle.penne.proofs.Leaves.{l-turn, l-param, l-functionOf}
-use Rattle.penne.proofs.Keeps.{newScope, orderly-scope}
+use Rattle.penne.proofs.Keeps.{orderly-scope}
+use Rattle.penne.specs.Scopes.{newScope}
 use Rattle.penne.proofs.Numbered.{OwnLabels}
 use Rattle.penne.proofs.Settled.{namesOf, found-named, Settled, below-base}
 use Rattle.penne.proofs.InStep.{InStep, Entry, eOther, sees, in-steady, in-param, in-scope}

@@ -1,12 +1,12 @@
 -- Lists of ids that count from 1 and are below a bound; and what a search finds among identifiers that have such ids.
 use Prim.Native.Nat.{ℕ, _+_, _≤_}
 use mathlib.Core.Bool.{Bool, true, false}
-use mathlib.Core.List.{List, [], _∷_, _++_}
+use mathlib.Core.List.{List, [], _∷_, _++_, flatMap}
 use mathlib.Core.Option.{Option, none, some}
 use native.Mathlib.Omega.{arith}
 use Rattle.penne.specs.Tree.{Ident}
 use Rattle.penne.specs.Find.{first, firstNamed, resolved}
-use Rattle.penne.specs.Ids.{givenEach, givenIdent, Below, nothing, also}
+use Rattle.penne.specs.Ids.{givenIdent, Below, nothing, also}
 
 pub raise : {m n : ℕ} {xs : List ℕ} → m ≤ n → Below m xs → Below n xs
 raise h nothing = nothing
@@ -27,14 +27,14 @@ right (x ∷ xs) ys (also a b p) = right xs ys p
 -- what a search finds among known identifiers is known
 module _ {P : Type 0} where
   abbrev pub idsOf : List (Ident P) → List ℕ
-  idsOf is = givenEach givenIdent is
+  idsOf is = flatMap givenIdent is
 
   pub data Known (n : ℕ) : Option (Ident P) → Type 0 where
     unknown : Known n none
     known : {j : Ident P} → Below n (givenIdent j) → Known n (some j)
 
   known-first : {n : ℕ} (t : Ident P → Bool) (is : List (Ident P)) → Below n (idsOf is) → Known n (first t is)
-  unfolding first givenEach givenIdent
+  unfolding first flatMap givenIdent
   known-first t [] p = unknown
   known-first {n} t (i ∷ is) (also a b p) = go (t i) (known-first t is p)
     where
@@ -47,7 +47,7 @@ module _ {P : Type 0} where
   known-named m is p = known-first _ is p
 
   pub each-append : {n : ℕ} (is js : List (Ident P)) → Below n (idsOf is) → Below n (idsOf js) → Below n (idsOf (is ++ js))
-  unfolding givenEach givenIdent
+  unfolding flatMap givenIdent
   each-append [] js p q = q
   each-append (i ∷ is) js (also a b p) q = also a b (each-append is js p q)
 
@@ -57,5 +57,5 @@ module _ {P : Type 0} where
   fresh i h = also h (omega arith) nothing
 
   pub fresh-last : {m : ℕ} (is : List (Ident P)) (i : Ident P) → 1 ≤ m → Below m (idsOf is) → Below (m + 1) (idsOf (is ++ (resolved i m 1 ∷ [])))
-  unfolding givenEach givenIdent resolved
+  unfolding flatMap givenIdent resolved
   fresh-last is i h p = each-append is (resolved i _ 1 ∷ []) (raise (omega arith) p) (also h (omega arith) nothing)

@@ -1,7 +1,7 @@
 -- The ids given out: they count from 1, labels and variables apart, and none exceeds the input's length in bytes.
 use Prim.Native.Nat.{ℕ, _+_}
 use mathlib.Core.Path.{_≡_}
-use mathlib.Core.List.{List, []}
+use mathlib.Core.List.{List, [], flatMap}
 use lib.ListN.{length}
 use native.Mathlib.Omega.{arith}
 use Rattle.penne.specs.Tree.{Spot, Decl, Tree}
@@ -13,7 +13,7 @@ use Rattle.penne.specs.State as S
 use Rattle.penne.specs.Scopes as Q
 use Rattle.penne.specs.Variables as V′
 use Rattle.penne.specs.Scoper.{analyze, answeredTree}
-use Rattle.penne.specs.Ids.{idsDecls, idsLabelsDecls, givenEach, nothing, Given}
+use Rattle.penne.specs.Ids.{idsDecls, idsLabelsDecls, nothing, Given}
 use Rattle.penne.proofs.IdsRead.{decoded-bytes}
 use Rattle.penne.proofs.IdsWhole.{next-label-decls, ids-all}
 use Rattle.penne.proofs.IdsBelow.{raise}
@@ -23,7 +23,7 @@ use Rattle.penne.proofs.IdsLabels.{fine-labels-decls, labels-decl, labe
 module _ {P : Type 0} where
   -- "Label ids and variable ids count separately from 1."
   pub ids-given : (names : List (List ℕ)) (ds : List (Decl P)) → Given (1 + idsDecls ds) (1 + idsLabelsDecls ds) (analyze names ds .0)
-  unfolding analyze V′.analyzeAll S._>>=_ L.labelReferences givenEach
+  unfolding analyze V′.analyzeAll S._>>=_ L.labelReferences flatMap
   ids-given names ds =
       let start : Labels P = record { labelStack = []; resolutionId = 1 } in
       let l = fine-labels-decls ds start (record { stack = nothing; begun = omega arith }) in

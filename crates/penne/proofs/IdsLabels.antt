@@ -1,7 +1,7 @@
 -- The ids of labels and gotos: the first pass gives ids that count from 1 and are below its next one, and the second leaves them alone.
 use Prim.Native.Nat.{ℕ, _≤_}
 use mathlib.Core.Path.{_≡_, refl, sym, subst}
-use mathlib.Core.List.{List, [], _∷_, _++_}
+use mathlib.Core.List.{List, [], _∷_, _++_, flatMap}
 use mathlib.Core.Option.{Option, none, some}
 use native.Mathlib.Omega.{arith}
 use Rattle.penne.specs.Tree.{Kind, Ident, Maybe, ok, err, Ty, Sort, Expr, Node, StmSort, Stm, nil′, cons′, declaration, assignment, methodCall, loop, goto, label, ifElse, block, badStmt, noElse, orElse, Param, Body, Decl, constant, function, functionHead, structure, import, badDecl, Carried}
@@ -9,11 +9,10 @@ use Rattle.penne.specs.Find.{resolved}
 use Rattle.penne.specs.Labels.{Labels}
 use Rattle.penne.specs.Labels as L
 use Rattle.penne.specs.State as S
-use Rattle.penne.specs.Scopes.{Analyzer, Pass}
+use Rattle.penne.specs.Scopes.{Analyzer, Pass, newScope}
 use Rattle.penne.specs.Scopes as Q
 use Rattle.penne.specs.Variables as V′
-use Rattle.penne.specs.Ids.{givenMaybe, givenEach, givenIdent, givenLabels, givenLabelsBody, givenLabelsDecl, Below, nothing}
-use Rattle.penne.proofs.IdsPass.{opened}
+use Rattle.penne.specs.Ids.{givenMaybe, givenIdent, givenLabels, givenLabelsBody, givenLabelsDecl, Below, nothing}
 use Rattle.penne.proofs.IdsBelow.{raise, both, left, right, idsOf, Known, known, known-named, fresh, fresh-last}
 
 -- THE FIRST PASS GIVES THEM
@@ -86,8 +85,8 @@ module _ {P : Type 0} where
   fine-labels-decl (import b p) l u = fine-none u
   fine-labels-decl (badDecl z) l u = fine-none u
 
-  pub fine-labels-decls : (ds : List (Decl P)) (l : Labels P) → LowL l → FineL l (givenEach givenLabelsDecl (L.labelsDecls ds l .0)) (L.labelsDecls ds l .1)
-  unfolding L.labelsDecls givenEach
+  pub fine-labels-decls : (ds : List (Decl P)) (l : Labels P) → LowL l → FineL l (flatMap givenLabelsDecl (L.labelsDecls ds l .0)) (L.labelsDecls ds l .1)
+  unfolding L.labelsDecls flatMap
   fine-labels-decls [] l u = fine-none u
   fine-labels-decls (d ∷ ds) l u =
       let p = fine-labels-decl d l u in
@@ -119,14 +118,14 @@ module _ {P : Type 0} where
   labels-stm (ifElse p op q r x y t e) a =
       let c = V′.analyzeNode y (V′.analyzeNode x a .1) .1 in
       λ k. labels-stm t c k ++ labels-stm e (V′.analyzeStm t c .1) k
-  labels-stm (block p ts) a = labels-stm ts (opened a)
+  labels-stm (block p ts) a = labels-stm ts (newScope a)
   labels-stm (badStmt z) a = refl
   labels-stm noElse a = refl
   labels-stm (orElse p t) a = labels-stm t a
 
   labels-body : (b : Maybe P (Body P)) (a : Analyzer P) → givenMaybe givenLabelsBody (V′.analyzeBody b a .0) ≡ givenMaybe givenLabelsBody b
   unfolding V′.analyzeBody V′.analyzeInBody S._>>=_ S.ret Q.inNewScope givenMaybe givenLabelsBody
-  labels-body (ok b) a = labels-stm (b .statements) (opened a)
+  labels-body (ok b) a = labels-stm (b .statements) (newScope a)
   labels-body (err z) a = refl
 
   labels-function : {n : ℕ} (names : List (List ℕ)) (f : ℕ) (p q : P) (ps : List (Param P)) (b : Maybe P (Body P)) (t : Maybe P (Ty P)) (i : Maybe P (Ident P)) (a : Analyzer P) → Below n (givenMaybe givenLabelsBody b) → Below n (givenLabelsDecl (V′.functionOf names f p q ps b t i a .0))
@@ -162,7 +161,7 @@ module _ {P : Type 0} where
   labels-own (import b p) a h = nothing
   labels-own (badDecl z) a h = nothing
 
-  pub labels-turn : {n : ℕ} (f : Decl P → Pass P (Decl P)) → ((d : Decl P) (a : Analyzer P) → Below n (givenLabelsDecl d) → Below n (givenLabelsDecl (f d a .0))) → (ds : List (Decl P)) (a : Analyzer P) → Below n (givenEach givenLabelsDecl ds) → Below n (givenEach givenLabelsDecl (V′.inTurn f ds a .0))
-  unfolding V′.inTurn S._>>=_ S.ret givenEach
+  pub labels-turn : {n : ℕ} (f : Decl P → Pass P (Decl P)) → ((d : Decl P) (a : Analyzer P) → Below n (givenLabelsDecl d) → Below n (givenLabelsDecl (f d a .0))) → (ds : List (Decl P)) (a : Analyzer P) → Below n (flatMap givenLabelsDecl ds) → Below n (flatMap givenLabelsDecl (V′.inTurn f ds a .0))
+  unfolding V′.inTurn S._>>=_ S.ret flatMap
   labels-turn f g [] a h = nothing
   labels-turn f g (d ∷ ds) a h = both (g d a (left (givenLabelsDecl d) _ h)) (labels-turn f g ds (f d a .1) (right (givenLabelsDecl d) _ h))

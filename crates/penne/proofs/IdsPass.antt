@@ -13,7 +13,7 @@ use Rattle.penne.specs.State as S
 use Rattle.penne.specs.Pruning.{Fate, pruned, poisoned, standing, Prunings}
 use Rattle.penne.specs.Containers.{Container, Containment}
 use Rattle.penne.specs.Containers as C
-use Rattle.penne.specs.Scopes.{Analyzer, Scope, Pass}
+use Rattle.penne.specs.Scopes.{Analyzer, Scope, Pass, newScope}
 use Rattle.penne.specs.Scopes as Q
 use Rattle.penne.specs.Variables as V′
 use Rattle.penne.specs.Ids.{idsNode, idsOption, idsStm, idsBody, idsName, idsParams, idsDecl}
@@ -106,12 +106,8 @@ module _ {P : Type 0} where
   pub grown-more : {m n : ℕ} {a b : Analyzer P} → m ≤ n → Grown m a b → Grown n a b
   grown-more h p = record { takes = takes-more h (p .takes); stack = p .stack }
 
-  -- what a scope begins with: all that was there, and an empty last layer
-  abbrev pub opened : Analyzer P → Analyzer P
-  opened a = Q.withStack a (record { constants = a .variableStack .constants; locals = a .variableStack .locals; layer = length (a .variableStack .locals) })
-
   -- a scope is closed
-  pub still-scope : {n : ℕ} {a b : Analyzer P} → Grown n (opened a) b → Still n a (Q.withStack b (a .variableStack))
+  pub still-scope : {n : ℕ} {a b : Analyzer P} → Grown n (newScope a) b → Still n a (Q.withStack b (a .variableStack))
   unfolding Q.withStack
   still-scope p = record { takes = record { lower = p .takes .lower; upper = p .takes .upper; functions = p .takes .functions; names = p .takes .names }; stack = refl }
 
@@ -307,7 +303,7 @@ module _ {P : Type 0} where
   still-node (signed b p c) a = still-none
   still-node (bits b p c) a = still-none
   still-node (string b p) a = still-none
-  still-node (arrayLiteral p c es i) a = still-then (still-scope (grown-still (still-node es (opened a)))) still-next
+  still-node (arrayLiteral p c es i) a = still-then (still-scope (grown-still (still-node es (newScope a)))) still-next
   still-node (structural p ms c) a = still-more (omega arith) (still-then (still-node ms a) (still-maybe c (V′.analyzeNode ms a .1)))
   still-node (parenthesized p x) a = still-node x a
   still-node (deref c r) a = still-node r a
@@ -361,7 +357,7 @@ module _ {P : Type 0} where
       let b = V′.analyzeNode x a .1 in
       let c = V′.analyzeNode y b .1 in
       grown-then (grown-still (still-node x a)) (grown-then (grown-still (still-node y b)) (grown-then (grown-stm t c) (grown-stm e (V′.analyzeStm t c .1))))
-  grown-stm (block p ts) a = grown-still (still-scope (grown-stm ts (opened a)))
+  grown-stm (block p ts) a = grown-still (still-scope (grown-stm ts (newScope a)))
   grown-stm (badStmt z) a = grown-still still-none
   grown-stm noElse a = grown-still still-none
   grown-stm (orElse p t) a = grown-stm t a
@@ -373,7 +369,7 @@ module _ {P : Type 0} where
 
   pub still-body : (b : Maybe P (Body P)) (a : Analyzer P) → Still (idsBody b) a (V′.analyzeBody b a .1)
   unfolding V′.analyzeBody S._>>=_ S.ret Q.inNewScope Q.createAnonymousResolutionId idsBody
-  still-body (ok b) a = still-then (still-scope (grown-inside b (opened a))) still-next
+  still-body (ok b) a = still-then (still-scope (grown-inside b (newScope a))) still-next
   still-body (err z) a = still-none
 
   -- PARAMETERS AND MEMBERS
@@ -440,10 +436,10 @@ module _ {P : Type 0} where
       let c = V′.analyzeMaybeType t b .1 in
       still-more (omega arith) (still-then (still-constexpr i x a) (still-then (still-maybe t b) (still-found i none (V′.analyzeMaybeType t b .0) c)))
   still-decl names (function f p q i ps b t) a =
-      still-more (omega arith) (still-then (still-scope (grown-function ps b (opened a))) (still-function-of names f p q _ _ t _ _))
+      still-more (omega arith) (still-then (still-scope (grown-function ps b (newScope a))) (still-function-of names f p q _ _ t _ _))
   still-decl names (functionHead f p q i ps t) a =
-      still-more (omega arith) (still-then (still-scope (grown-params (V′.analyzeParam 5) (grown-param 5) ps (opened a))) (still-head-of f p q _ t _ _))
+      still-more (omega arith) (still-then (still-scope (grown-params (V′.analyzeParam 5) (grown-param 5) ps (newScope a))) (still-head-of f p q _ t _ _))
   still-decl names (structure f p i ms t) a =
-      still-more (omega arith) (still-then (still-scope (grown-params (V′.analyzeMember i) (grown-member i) ms (opened a))) (still-maybe t _))
+      still-more (omega arith) (still-then (still-scope (grown-params (V′.analyzeMember i) (grown-member i) ms (newScope a))) (still-maybe t _))
   still-decl names (import b p) a = still-none
   still-decl names (badDecl z) a = still-none

@@ -2,7 +2,7 @@
 use Prim.Native.Nat.{ℕ, zero, suc, _≤_}
 use mathlib.Core.Bool.{Bool, true, false}
 use mathlib.Core.Path.{sym, subst}
-use mathlib.Core.List.{List, [], _∷_, _++_, map}
+use mathlib.Core.List.{List, [], _∷_, _++_, map, flatMap}
 use mathlib.Core.Option.{Option, none, some}
 use native.Mathlib.Omega.{arith}
 use Rattle.penne.specs.Tree.{Kind, Ident, Maybe, ok, err, Ty, plain, array, arrayWithNamedLength, arraylike, struct, word, unresolved, nameless, pointer, view, Sort, Expr, Node, nil, cons, binary, unary, boolean, signed, bits, string, arrayLiteral, structural, parenthesized, deref, bitCast, typeCast, lengthOfArray, sizeOf, functionCall, badExpr, reference, element, member, memberExpression, StmSort, Stm, nil′, cons′, declaration, assignment, methodCall, loop, goto, label, ifElse, block, badStmt, noElse, orElse, Param, Body, Decl, constant, function, functionHead, structure, import, badDecl, Carried}
@@ -11,11 +11,11 @@ use Rattle.penne.specs.State as S
 use Rattle.penne.specs.Pruning.{Fate, pruned, poisoned, standing}
 use Rattle.penne.specs.Containers.{Container, Containment}
 use Rattle.penne.specs.Containers as C
-use Rattle.penne.specs.Scopes.{Analyzer, Scope, Pass}
+use Rattle.penne.specs.Scopes.{Analyzer, Scope, Pass, newScope}
 use Rattle.penne.specs.Scopes as Q
 use Rattle.penne.specs.Variables as V′
-use Rattle.penne.specs.Ids.{givenMaybe, givenOption, givenEach, givenIdent, givenTy, givenCalled, givenNode, givenStm, givenBody, givenParam, givenDecl, Below, nothing, also}
-use Rattle.penne.proofs.IdsPass.{Still, still-constant, still-struct, still-variable, still-function, still-found, opened}
+use Rattle.penne.specs.Ids.{givenMaybe, givenOption, givenIdent, givenTy, givenCalled, givenNode, givenStm, givenBody, givenParam, givenDecl, Below, nothing, also}
+use Rattle.penne.proofs.IdsPass.{Still, still-constant, still-struct, still-variable, still-function, still-found}
 use Rattle.penne.proofs.IdsBelow.{raise, both, left, right, idsOf, Known, known, known-named, each-append, fresh, fresh-last}
 
 -- all that is declared has an id that was given out
@@ -195,7 +195,7 @@ module _ {P : Type 0} where
   unfolding Q.inNewScope Q.withStack
   after-scope {m = m} p = record {
     at = λ a i l.
-        let u = p .at (opened a) i (record { constants = l .constants; locals = l .locals; functions = l .functions; structures = l .structures; begun = l .begun }) in
+        let u = p .at (newScope a) i (record { constants = l .constants; locals = l .locals; functions = l .functions; structures = l .structures; begun = l .begun }) in
         record {
           low = record { constants = raise (u .up) (l .constants); locals = raise (u .up) (l .locals); functions = u .low .functions; structures = u .low .structures; begun = u .low .begun };
           up = u .up;
@@ -389,10 +389,10 @@ module _ {P : Type 0} where
   unfolding V′.analyzeMember givenParam Mt
   after-member c x = after-bind (after-param 6 x) λ y k i u. after-bind (after-wellfounded c (y .ident) (y .type) (right (givenMaybe givenIdent (y .ident)) _ u)) λ t l j v. after-ret givenParam (both (left (givenMaybe givenIdent (y .ident)) _ (raise j u)) v)
 
-  after-turn : {A : Type 0} {n : ℕ} (h : A → List ℕ) {f : A → Pass P A} → ((x : A) (k : ℕ) → n ≤ k → After k h (f x)) → (xs : List A) (k : ℕ) → n ≤ k → After k (givenEach h) (V′.inTurn f xs)
-  unfolding V′.inTurn givenEach
-  after-turn h g [] k i = after-ret (givenEach h) nothing
-  after-turn h g (x ∷ xs) k i = after-bind (g x k i) λ y l j u. after-bind (after-turn h g xs l (omega arith)) λ ys m o v. after-ret (givenEach h) (both (raise o u) v)
+  after-turn : {A : Type 0} {n : ℕ} (h : A → List ℕ) {f : A → Pass P A} → ((x : A) (k : ℕ) → n ≤ k → After k h (f x)) → (xs : List A) (k : ℕ) → n ≤ k → After k (flatMap h) (V′.inTurn f xs)
+  unfolding V′.inTurn flatMap
+  after-turn h g [] k i = after-ret (flatMap h) nothing
+  after-turn h g (x ∷ xs) k i = after-bind (g x k i) λ y l j u. after-bind (after-turn h g xs l (omega arith)) λ ys m o v. after-ret (flatMap h) (both (raise o u) v)
 
   -- DECLARATIONS
 
@@ -415,7 +415,7 @@ module _ {P : Type 0} where
 
   -- of a function's parameters and body
   givenPair : List (Param P) × Maybe P (Body P) → List ℕ
-  givenPair r = givenEach givenParam (r .0) ++ Mb (r .1)
+  givenPair r = flatMap givenParam (r .0) ++ Mb (r .1)
 
   after-function-body : {n : ℕ} (ps : List (Param P)) (b : Maybe P (Body P)) → After n givenPair (V′.analyzeParamsAndBody ps b)
   unfolding V′.analyzeParamsAndBody givenPair
@@ -423,10 +423,10 @@ module _ {P : Type 0} where
 
   after-function-of : {n : ℕ} (names : List (List ℕ)) (f : ℕ) (p q : P) (ps : List (Param P)) (b : Maybe P (Body P)) (t : Maybe P (Ty P)) (i : Maybe P (Ident P)) → Below n (givenPair (ps, b)) → Below n (Mi i) → After n givenDecl (V′.functionOf names f p q ps b t i)
   unfolding V′.functionOf givenDecl givenPair Mb Mt givenMaybe
-  after-function-of names f p q ps b t (ok i) u v = after-bind (after-maybe t) λ t′ k h w. after-ret givenDecl (both (raise h v) (both (left (givenEach givenParam ps) _ (raise h u)) (both (right (givenEach givenParam ps) _ (raise h u)) w)))
+  after-function-of names f p q ps b t (ok i) u v = after-bind (after-maybe t) λ t′ k h w. after-ret givenDecl (both (raise h v) (both (left (flatMap givenParam ps) _ (raise h u)) (both (right (flatMap givenParam ps) _ (raise h u)) w)))
   after-function-of names f p q ps b t (err z) u v = after-ret givenDecl nothing
 
-  after-head-of : {n : ℕ} (f : ℕ) (p q : P) (ps : List (Param P)) (t : Maybe P (Ty P)) (i : Maybe P (Ident P)) → Below n (givenEach givenParam ps) → Below n (Mi i) → After n givenDecl (V′.functionHeadOf f p q ps t i)
+  after-head-of : {n : ℕ} (f : ℕ) (p q : P) (ps : List (Param P)) (t : Maybe P (Ty P)) (i : Maybe P (Ident P)) → Below n (flatMap givenParam ps) → Below n (Mi i) → After n givenDecl (V′.functionHeadOf f p q ps t i)
   unfolding V′.functionHeadOf givenDecl Mt givenMaybe
   after-head-of f p q ps t (ok i) u v = after-bind (after-maybe t) λ t′ k h w. after-ret givenDecl (both (raise h v) (both (raise h u) w))
   after-head-of f p q ps t (err z) u v = after-ret givenDecl nothing
@@ -447,7 +447,7 @@ module _ {P : Type 0} where
 
   -- one container more, a structure or not
   below-push : {n : ℕ} (c : Container P) (cs : List (Container P)) → Below n (idsOf (C.structures cs)) → Below n (givenIdent (c .identifier)) → Below n (idsOf (C.structures (cs ++ (c ∷ []))))
-  unfolding C.structures keep C.identifierOf givenEach givenIdent
+  unfolding C.structures keep C.identifierOf flatMap givenIdent
   below-push {n} c [] p q = go (c .isStructure)
     where
       go : (b : Bool) → Below n (idsWithin (elim b as (λ _. List (Container P)) [ true ↦ c ∷ [] | false ↦ [] ]))
@@ -522,19 +522,19 @@ module _ {P : Type 0} where
   after-own (import b p) = after-ret givenOwn nothing
   after-own (badDecl z) = after-ret givenOwn nothing
 
-  after-decls : (names : List (List ℕ)) (ds : List (Decl P)) (n : ℕ) → Below n (givenEach givenOwn ds) → After n (givenEach givenDecl) (V′.inTurn (V′.analyzeDecl names) ds)
-  unfolding V′.inTurn givenEach
-  after-decls names [] n o = after-ret (givenEach givenDecl) nothing
-  after-decls names (d ∷ ds) n o = after-bind (after-decl names d (left (givenOwn d) _ o)) λ y k h u. after-bind (after-decls names ds k (raise h (right (givenOwn d) _ o))) λ ys l j v. after-ret (givenEach givenDecl) (both (raise j u) v)
+  after-decls : (names : List (List ℕ)) (ds : List (Decl P)) (n : ℕ) → Below n (flatMap givenOwn ds) → After n (flatMap givenDecl) (V′.inTurn (V′.analyzeDecl names) ds)
+  unfolding V′.inTurn flatMap
+  after-decls names [] n o = after-ret (flatMap givenDecl) nothing
+  after-decls names (d ∷ ds) n o = after-bind (after-decl names d (left (givenOwn d) _ o)) λ y k h u. after-bind (after-decls names ds k (raise h (right (givenOwn d) _ o))) λ ys l j v. after-ret (flatMap givenDecl) (both (raise j u) v)
 
-  after-all : (names : List (List ℕ)) (ds : List (Decl P)) → After 1 (givenEach givenDecl) (V′.analyzeAll names ds)
+  after-all : (names : List (List ℕ)) (ds : List (Decl P)) → After 1 (flatMap givenDecl) (V′.analyzeAll names ds)
   unfolding V′.analyzeAll
   after-all names ds = after-bind (after-turn {n = 1} givenOwn (λ d k i. after-own d) ds 1 (omega arith)) λ ds′ k h u. after-decls names ds′ k u
 
   low-begin : Low {P = P} Q.begin
-  unfolding Q.begin C.structures keep givenEach
+  unfolding Q.begin C.structures keep flatMap
   low-begin = record { constants = nothing; locals = nothing; functions = nothing; structures = nothing; begun = omega arith }
 
   -- THE SECOND PASS: the ids in its answer are below its next one
-  pub given-variables : (names : List (List ℕ)) (ds : List (Decl P)) → Below (V′.analyzeAll names ds Q.begin .1 .resolutionId) (givenEach givenDecl (V′.analyzeAll names ds Q.begin .0))
+  pub given-variables : (names : List (List ℕ)) (ds : List (Decl P)) → Below (V′.analyzeAll names ds Q.begin .1 .resolutionId) (flatMap givenDecl (V′.analyzeAll names ds Q.begin .0))
   given-variables names ds = after-all names ds .at Q.begin (low-begin .begun) low-begin .given

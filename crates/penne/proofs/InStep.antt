@@ -20,7 +20,8 @@ use Rattle.penne.proofs.Booleans.{true-false, or-left, or-right, false-
 use Rattle.penne.proofs.Skeleton.{runs, jumps, marks}
 use Rattle.penne.proofs.PruningIsFlow.{St, st, enter, back, pruned}
 use Rattle.penne.proofs.Steady.{isSome, goneId, Steady}
-use Rattle.penne.proofs.Keeps.{Orderly, grow-steady, g-declare, g-goto, g-label, in-last, in-layer, stands-on, newScope, empty-layer, orderly-scope, orderly-back}
+use Rattle.penne.proofs.Keeps.{Orderly, grow-steady, g-declare, g-goto, g-label, in-last, in-layer, stands-on, empty-layer, orderly-scope, orderly-back}
+use Rattle.penne.specs.Scopes.{newScope}
 use Rattle.penne.proofs.Beside.{Beside, beside-map, beside-last, beside-back}
 use Rattle.penne.proofs.Looks.{Looks, lLocal, lOther, Sees}
 use Rattle.penne.proofs.Waiting.{idsIn, waiting, lostBy, lostAt, waits, lost-meet, waits-meet, gone-label, waiting-label}

@@ -13,7 +13,7 @@ use Rattle.penne.specs.Tree.{Ident, Maybe, ok, err, Ty, plain, array, ar
 use Rattle.penne.specs.Find.{isIn, resolved}
 use Rattle.penne.specs.Pruning.{UnresolvedPruning}
 use Rattle.penne.specs.Containers.{Containment, structures, foundContainer1, foundContainer}
-use Rattle.penne.specs.Scopes.{Analyzer}
+use Rattle.penne.specs.Scopes.{Analyzer, newScope}
 use Rattle.penne.specs.Walks.{parts, partsOf}
 use Rattle.penne.specs.State as S
 use Rattle.penne.specs.Pruning as R
@@ -131,10 +131,6 @@ unfolding S._>>=_
 g-bind {m = m} p q = record { go = λ a. grow-trans (p .go a) (q (m a .0) .go (m a .1)) }
 
 -- SCOPES
-
--- a new layer with nothing in it
-abbrev pub newScope : {P : Type 0} → Analyzer P → Analyzer P
-newScope a = Q.withStack a (record { constants = a .variableStack .constants; locals = a .variableStack .locals; layer = length (a .variableStack .locals) })
 
 -- behind its last entry a list has none
 pub drop-all : {A : Type 0} (xs : List A) → drop (length xs) xs ≡ []

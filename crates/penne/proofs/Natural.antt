@@ -306,7 +306,7 @@ module _ {P P′ : Type 0} (f : P → P′) where
     at = λ a.
         let s = a .variableStack in
         ap (λ (n : ℕ). let r = m′ (Q.withStack (mapAnalyzer a) (record { constants = map (mapIdent f) (s .constants); locals = map (mapIdent f) (s .locals); layer = n })) in (r .0, Q.withStack (r .1) (mapScope s))) (length-map (s .locals) (mapIdent f))
-        ∙ ap (λ r. (r .0, Q.withStack (r .1) (mapScope s))) (p .at (Q.withStack a (record { constants = s .constants; locals = s .locals; layer = length (s .locals) })));
+        ∙ ap (λ r. (r .0, Q.withStack (r .1) (mapScope s))) (p .at (Q.newScope a));
   }
 
   nat-fresh : Nat (λ (n : ℕ). n) Q.createAnonymousResolutionId Q.createAnonymousResolutionId

@@ -1,11 +1,11 @@
 -- An answer is as long with blank places: of a place only the number of bytes counts.
 use Prim.Native.Nat.{ℕ, suc, _+_}
 use mathlib.Core.Path.{_≡_, refl, sym, _∙_, ap}
-use mathlib.Core.List.{List, [], _∷_, _++_, map}
+use mathlib.Core.List.{List, [], _∷_, _++_, map, flatMap}
 use mathlib.Core.Option.{Option, none, some}
 use lib.ListN.{length, length-map, length-append}
 use Rattle.penne.specs.Tree.{Spot, Ident, Poison, poison, earlier, Maybe, ok, err, Ty, plain, array, arrayWithNamedLength, arraylike, struct, word, unresolved, nameless, pointer, view, Carried, Kind, Sort, listOf, Node, nil, cons, binary, unary, boolean, signed, bits, string, arrayLiteral, structural, parenthesized, deref, bitCast, typeCast, lengthOfArray, sizeOf, functionCall, badExpr, reference, element, member, memberExpression, StmSort, stmts, Stm, nil′, cons′, declaration, assignment, methodCall, loop, goto, label, ifElse, block, badStmt, noElse, orElse, Param, Body, Decl, constant, function, functionHead, structure, import, badDecl, Tree}
-use Rattle.penne.specs.Write.{numB, placeB, eachB, listB, bytesB, identB, poisonB, maybeB, optionB, tyB, carriedB, count, nodeB, count′, stmB, bodyB, paramB, declB, encode}
+use Rattle.penne.specs.Write.{numB, placeB, listB, bytesB, identB, poisonB, maybeB, optionB, tyB, carriedB, count, nodeB, count′, stmB, bodyB, paramB, declB, encode}
 use Rattle.penne.specs.Places.{mapIdent, mapPoison, mapMaybe, mapOption, mapTy, mapMaybeTy, mapCarried, mapNode, mapStm, mapParam, mapBody, mapDecl, mapTree}
 use Rattle.penne.specs.PlaceRule.{blank}
 use Rattle.penne.proofs.PlaceWidths.{long-least}
@@ -33,8 +33,8 @@ unfolding identB mapIdent
 long-ident i = the (numB (i .name)) ⊕ long-place (i .place) ⊕ the (numB (i .id)) ⊕ the (numB (i .auth))
 
 -- items that are as long one by one
-long-each : {A : Type 0} (f : A → List ℕ) (g : A → A) → ((x : A) → Long (f (g x)) (f x)) → (xs : List A) → Long (eachB f (map g xs)) (eachB f xs)
-unfolding eachB
+long-each : {A : Type 0} (f : A → List ℕ) (g : A → A) → ((x : A) → Long (f (g x)) (f x)) → (xs : List A) → Long (flatMap f (map g xs)) (flatMap f xs)
+unfolding flatMap
 long-each f g h [] = the []
 long-each f g h (x ∷ xs) = h x ⊕ long-each f g h xs
 
@@ -44,7 +44,7 @@ long-list f g h xs = long-number (length-map xs g) ⊕ long-each f g h xs
 
 long-poison : (z : Poison Spot) → Long (poisonB (mapPoison blank z)) (poisonB z)
 unfolding poisonB mapPoison
-long-poison (poison k ns ps) = the (numB k) ⊕ the (eachB numB ns) ⊕ long-each placeB blank long-place ps
+long-poison (poison k ns ps) = the (numB k) ⊕ the (flatMap numB ns) ⊕ long-each placeB blank long-place ps
 long-poison (earlier n) = the (numB 17 ++ numB n)
 
 long-maybe : {A : Type 0} (f : A → List ℕ) (g : A → A) → ((x : A) → Long (f (g x)) (f x)) → (r : Maybe Spot A) → Long (maybeB f (mapMaybe blank g r)) (maybeB f r)
@@ -148,7 +148,7 @@ long-decl (badDecl z) = the (numB 5) ⊕ long-poison z
 
 long-tree : (t : Tree Spot) → Long (encode (mapTree blank t)) (encode t)
 unfolding encode mapTree
-long-tree t = the (listB bytesB (t .names)) ⊕ long-list declB (mapDecl blank) long-decl (t .decls) ⊕ the (eachB numB (t .depths))
+long-tree t = the (listB bytesB (t .names)) ⊕ long-list declB (mapDecl blank) long-decl (t .decls) ⊕ the (flatMap numB (t .depths))
 
 -- trees that are the same with blank places have encodings of one length
 pub same-length : (t t′ : Tree Spot) → mapTree blank t ≡ mapTree blank t′ → length (encode t) ≡ length (encode t′)

@@ -24,7 +24,8 @@ use Rattle.penne.proofs.FirstPass.{isOne}
 use Rattle.penne.proofs.BodyPruning.{same-scope}
 use Rattle.penne.proofs.Steady.{steady-trans, steady-node, steady-maybe, steady-called, steady-option}
 use Rattle.penne.proofs.Waiting.{idsIn}
-use Rattle.penne.proofs.Keeps.{Orderly, g-stm, newScope}
+use Rattle.penne.proofs.Keeps.{Orderly, g-stm}
+use Rattle.penne.specs.Scopes.{newScope}
 use Rattle.penne.proofs.Settled.{found-held}
 use Rattle.penne.proofs.Beside.{Beside, beside-map, beside-last}
 use Rattle.penne.proofs.Looks.{goneUse, Sees, looked, looked-option, looked-carried, looked-more, sees-after}

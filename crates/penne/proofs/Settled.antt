@@ -25,7 +25,8 @@ use Rattle.penne.proofs.Leaves.{l-bind, l-maybe, l-found, l-functionOf,
 use Rattle.penne.proofs.Skeleton.{Sk}
 use Rattle.penne.proofs.BodySkeleton.{sk}
 use Rattle.penne.proofs.Numbered.{statementsOf, OwnLabels, noNames, Waits, waits-same, waits-stm}
-use Rattle.penne.proofs.Keeps.{Orderly, Above, in-last, g-decl, newScope}
+use Rattle.penne.proofs.Keeps.{Orderly, Above, in-last, g-decl}
+use Rattle.penne.specs.Scopes.{newScope}
 
 -- NAMES
 

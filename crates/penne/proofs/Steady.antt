@@ -238,7 +238,7 @@ steady-node (boolean b p) a = steady-refl a
 steady-node (signed b p c) a = steady-refl a
 steady-node (bits b p c) a = steady-refl a
 steady-node (string b p) a = steady-refl a
-steady-node (arrayLiteral p c es i) a = steady-scope _ (steady-node es (Q.withStack a (record { constants = a .variableStack .constants; locals = a .variableStack .locals; layer = length (a .variableStack .locals) })))
+steady-node (arrayLiteral p c es i) a = steady-scope _ (steady-node es (Q.newScope a))
 steady-node (structural p ms c) a = steady-trans (steady-node ms a) (steady-maybe c (V′.analyzeNode ms a .1))
 steady-node (parenthesized p x) a = steady-node x a
 steady-node (deref c r) a = steady-node r a

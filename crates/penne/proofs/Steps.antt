@@ -24,7 +24,8 @@ use Rattle.penne.proofs.BodySkeleton.{ofUse, ofUses, sk}
 use Rattle.penne.proofs.FirstPass.{quiet-uses, isOne}
 use Rattle.penne.proofs.BodyPruning.{same-scope}
 use Rattle.penne.proofs.Steady.{Steady, steady-trans, steady-node, steady-maybe, steady-called, steady-option}
-use Rattle.penne.proofs.Keeps.{Grow, g-stm, newScope, label-skips}
+use Rattle.penne.proofs.Keeps.{Grow, g-stm, label-skips}
+use Rattle.penne.specs.Scopes.{newScope}
 use Rattle.penne.proofs.Looks.{goneUse, told, Looked, looked-more, looked, looked-option, looked-carried, looked-called, sees-after}
 use Rattle.penne.proofs.InStep.{InStep, sees, in-steady, in-declare, in-goto, in-label, in-scope, in-branch, Further, in-back}
 

@@ -1,7 +1,7 @@
 -- Ids: how many each pass can take for a part of the tree, and which ids of an answered tree the passes gave out.
 -- 01: "Label ids and variable ids count separately from 1. No id given out exceeds the input's length in bytes."
 use Prim.Native.Nat.{ℕ, zero, suc, _+_, _≤_, _<_}
-use mathlib.Core.List.{List, [], _∷_, _++_}
+use mathlib.Core.List.{List, [], _∷_, _++_, flatMap}
 use mathlib.Core.Option.{Option, none, some}
 use Rattle.penne.specs.Tree.{Ident, Maybe, ok, err, Ty, plain, array, arrayWithNamedLength, arraylike, struct, word, unresolved, nameless, pointer, view, Sort, Node, nil, cons, binary, unary, boolean, signed, bits, string, arrayLiteral, structural, parenthesized, deref, bitCast, typeCast, lengthOfArray, sizeOf, functionCall, badExpr, reference, element, member, memberExpression, StmSort, Stm, nil′, cons′, declaration, assignment, methodCall, loop, goto, label, ifElse, block, badStmt, noElse, orElse, Param, Body, Decl, constant, function, functionHead, structure, import, badDecl}
 
@@ -140,11 +140,6 @@ unfoldable pub givenOption : {A : Type 0} → (A → List ℕ) → Option A → 
 givenOption f none = []
 givenOption f (some x) = f x
 
--- of each in turn
-unfoldable pub givenEach : {A : Type 0} → (A → List ℕ) → List A → List ℕ
-givenEach f [] = []
-givenEach f (x ∷ xs) = f x ++ givenEach f xs
-
 -- the id of an identifier
 unfoldable pub givenIdent : {P : Type 0} → Ident P → List ℕ
 givenIdent i = i .id ∷ []
@@ -219,9 +214,9 @@ givenParam x = givenMaybe givenIdent (x .ident) ++ givenMaybe givenTy (x .type)
 -- of a declaration
 unfoldable pub givenDecl : {P : Type 0} → Decl P → List ℕ
 givenDecl (constant f p q i x t) = givenIdent i ++ (givenNode x ++ givenMaybe givenTy t)
-givenDecl (function f p q i ps b t) = givenIdent i ++ (givenEach givenParam ps ++ (givenMaybe givenBody b ++ givenMaybe givenTy t))
-givenDecl (functionHead f p q i ps t) = givenIdent i ++ (givenEach givenParam ps ++ givenMaybe givenTy t)
-givenDecl (structure f p i ms t) = givenIdent i ++ (givenEach givenParam ms ++ givenMaybe givenTy t)
+givenDecl (function f p q i ps b t) = givenIdent i ++ (flatMap givenParam ps ++ (givenMaybe givenBody b ++ givenMaybe givenTy t))
+givenDecl (functionHead f p q i ps t) = givenIdent i ++ (flatMap givenParam ps ++ givenMaybe givenTy t)
+givenDecl (structure f p i ms t) = givenIdent i ++ (flatMap givenParam ms ++ givenMaybe givenTy t)
 givenDecl (import b p) = []
 givenDecl (badDecl z) = []
 
@@ -261,5 +256,5 @@ pub data Below (n : ℕ) : List ℕ → Type 0 where
 
 -- "Label ids and variable ids count separately from 1": of the answer's declarations
 pub record Given {P : Type 0} (variables labels : ℕ) (ds : List (Decl P)) : Type 0 where
-  pub ofVariables : Below variables (givenEach givenDecl ds)
-  pub ofLabels : Below labels (givenEach givenLabelsDecl ds)
+  pub ofVariables : Below variables (flatMap givenDecl ds)
+  pub ofLabels : Below labels (flatMap givenLabelsDecl ds)

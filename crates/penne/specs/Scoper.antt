@@ -1,13 +1,13 @@
 -- scoper.rs: the scoping call with all that it leaves behind, and the three readers of an answered tree.
 use Prim.Native.Nat.{ℕ, zero, suc, _+_, _-_}
 use mathlib.Core.Bool.{Bool, true, false}
-use mathlib.Core.List.{List, [], _∷_, _++_}
+use mathlib.Core.List.{List, [], _∷_, _++_, flatMap}
 use mathlib.Core.Option.{Option, none, some}
 use lib.ListN.{length, getD, take, replicate, getElem?}
 use lib.Dec.{ltb, leb}
 use Rattle.penne.specs.Reader.{Got, got, refused}
 use Rattle.penne.specs.Read.{decode, incoming, answered}
-use Rattle.penne.specs.Write.{numB, bytesB, eachB, encode}
+use Rattle.penne.specs.Write.{numB, bytesB, encode}
 use Rattle.penne.specs.Labels.{labelReferences}
 use Rattle.penne.specs.Pruning.{offsets}
 use Rattle.penne.specs.Scopes.{Analyzer, begin}
@@ -124,7 +124,7 @@ isContainer s k = ask (λ t _. ltb (depthOr 4294967295 (getD (t .depths) k 0)) 4
 
 -- where the bytes of name n stand in the tree: behind the count, the names before it, and its own length, one byte
 unfoldable pub nameFrom : List (List ℕ) → ℕ → ℕ
-nameFrom names n = length (numB (length names)) + length (eachB bytesB (take n names)) + 1
+nameFrom names n = length (numB (length names)) + length (flatMap bytesB (take n names)) + 1
 
 -- where a structure's name stands in the tree, and its length: "empty for a refusal or another kind"
 unfoldable pub structureName : Tree Spot → Decl Spot → ℕ × ℕ

@@ -57,12 +57,13 @@ variables a = a .variableStack .constants ++ a .variableStack .locals
 unfoldable pub lastLayer : {P : Type 0} → Analyzer P → List (Ident P)
 lastLayer a = drop (a .variableStack .layer) (a .variableStack .locals)
 
+-- push_scope: all that was there, and an empty last layer
+abbrev pub newScope : {P : Type 0} → Analyzer P → Analyzer P
+newScope a = withStack a (record { constants = a .variableStack .constants; locals = a .variableStack .locals; layer = length (a .variableStack .locals) })
+
 -- push_scope, the step, pop_scope: the stack is afterwards what it was
 unfoldable pub inNewScope : {P A : Type 0} → Pass P A → Pass P A
-inNewScope m = λ a.
-    let s = a .variableStack in
-    let (x, a′) = m (withStack a (record { constants = s .constants; locals = s .locals; layer = length (s .locals) })) in
-    (x, withStack a′ s)
+inNewScope m = λ a. let (x, a′) = m (newScope a) in (x, withStack a′ (a .variableStack))
 
 -- a step on the containers alone
 unfoldable pub onContainment : {P A : Type 0} → State (Containment P) A → Pass P A

@@ -1,7 +1,7 @@
 -- The encoder: 01, "The script tree". `xB` are the bytes of an x; of a place its number is written.
 use Prim.Native.Nat.{ℕ, zero, suc, _+_, _/_, _%_}
 use mathlib.Core.Bool.{true, false}
-use mathlib.Core.List.{List, [], _∷_, _++_}
+use mathlib.Core.List.{List, [], _∷_, _++_, flatMap}
 use mathlib.Core.Option.{Option, none, some}
 use lib.ListN.{length}
 use lib.Dec.{ltb}
@@ -20,14 +20,9 @@ numB n = groupsB 5 n
 unfoldable pub placeB : Spot → List ℕ
 placeB p = numB (p .number)
 
--- items one after another
-unfoldable pub eachB : {A : Type 0} → (A → List ℕ) → List A → List ℕ
-eachB f [] = []
-eachB f (x ∷ xs) = f x ++ eachB f xs
-
 -- a count, then the items
 unfoldable pub listB : {A : Type 0} → (A → List ℕ) → List A → List ℕ
-listB f xs = numB (length xs) ++ eachB f xs
+listB f xs = numB (length xs) ++ flatMap f xs
 
 -- a length, then the bytes
 unfoldable pub bytesB : List ℕ → List ℕ
@@ -39,7 +34,7 @@ identB i = numB (i .name) ++ (placeB (i .place) ++ (numB (i .id) ++ numB (i .aut
 
 -- a kind, then names, then places
 unfoldable pub poisonB : Poison Spot → List ℕ
-poisonB (poison k ns ps) = numB k ++ (eachB numB ns ++ eachB placeB ps)
+poisonB (poison k ns ps) = numB k ++ (flatMap numB ns ++ flatMap placeB ps)
 poisonB (earlier n) = numB 17 ++ numB n
 
 -- "'Maybe X' is 0 then X, or 1 then a poison."
@@ -139,4 +134,4 @@ declB (badDecl z) = numB 5 ++ poisonB z
 
 -- names, declarations, depths
 unfoldable pub encode : Tree Spot → List ℕ
-encode t = listB bytesB (t .names) ++ (listB declB (t .decls) ++ eachB numB (t .depths))
+encode t = listB bytesB (t .names) ++ (listB declB (t .decls) ++ flatMap numB (t .depths))

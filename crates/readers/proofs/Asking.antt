@@ -21,7 +21,7 @@ use Rattle.tree.specs.declared.script.Laid.{Laid}
 use Rattle.tree.specs.declared.script.Laid.the-variants as L
 use Rattle.fields.specs.Answers.{cursor, numberOf, Gives}
 use Rattle.tree.specs.Script.{refusalOf, refusal, Decoded, AnsweredLayout}
-use Rattle.tree.proofs.Scripts.{bind-case, many-length}
+use Rattle.fields.proofs.Back.{bind-case, many-length}
 use Rattle.readers.specs.declared.Depth.{Depth}
 use Rattle.readers.specs.declared.Depth.the-variants as D
 use Rattle.readers.specs.declared.Container.{Container}

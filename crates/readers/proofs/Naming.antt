@@ -1,7 +1,7 @@
 -- get_structure_name: a law for each way out.
 use mathlib.Core.Path.{_≡_, refl, sym, ap, subst, _∙_}
 use mathlib.Core.Bool.{Bool, true, false, _&&_, not}
-use mathlib.Core.List.{List, [], _∷_, _++_, append-assoc, append-nil}
+use mathlib.Core.List.{List, [], _∷_, _++_, append-assoc, append-nil, flatMap}
 use mathlib.Core.Option.{some}
 use Prim.Native.Nat.{ℕ, zero, suc, _+_, _-_, _≤_, _<_}
 use native.Mathlib.Omega.{arith}
@@ -13,7 +13,7 @@ use borrow.Author.Tests.{ltb-true, leb-true}
 use Rattle.penne.specs.Reader.{Counts, Cur, Got, got, refused, Reader, _>>=_, ret, num, below, such, raw, bytes, moved, many, listed, plus, fits, counted, counting, nothing}
 use Rattle.penne.specs.Tree.{Spot, Ident, Decl, Tree, Param, Maybe, Ty, structure}
 use Rattle.penne.specs.Read.{place, name, ident, maybe, readTy, readParam, readStructure, DeclKind, declKinds, kConstant, kFunction, kFunctionHead, kStructure, kImport, kBadDecl, readConstant, readFunction, readFunctionHead, readImport, declOf, declHead, declCounts, readDecl, readNames, amongNames}
-use Rattle.penne.specs.Write.{numB, bytesB, eachB}
+use Rattle.penne.specs.Write.{numB, bytesB}
 use Rattle.penne.specs.Scoper.{Asked, told, untold, askDecl, ask, nameFrom, structureName, getStructureName}
 use Rattle.penne.proofs.Leading.{never, same-value, same-cur}
 use Rattle.penne.proofs.Booleans.{and-right, some-same, none-some}
@@ -27,13 +27,14 @@ use Rattle.tree.specs.declared.script.Layout.{Layout}
 use Rattle.tree.specs.declared.script.Laid.{Laid}
 use Rattle.tree.specs.declared.script.Laid.the-variants as L
 use Rattle.fields.specs.Answers.{cursor, numberOf, endOf, forget, Gives, Reads, Skips, countsOf, passedOf, Passes}
-use Rattle.fields.specs.Names.{part}
+use Rattle.name_table.specs.Names.{part}
 use Rattle.tree.specs.Script.{Decoded, AnsweredLayout}
 use Rattle.fields.proofs.Chain.{after, here, never′, reads}
 use Rattle.fields.proofs.Counting.{counting-no, counting-fits, counting-full}
 use Rattle.fields.proofs.Fields.{stops}
 use Rattle.tree.proofs.Statements.{kind-value}
-use Rattle.tree.proofs.Scripts.{bind-case, many-case, Yields, yields-bind, yields-ret}
+use Rattle.tree.proofs.Scripts.{Yields, yields-bind, yields-ret}
+use Rattle.fields.proofs.Back.{bind-case, many-case}
 use Rattle.answer.proofs.Groups.{number-small}
 use Rattle.answer.proofs.Spelling.{num-reading}
 use Rattle.readers.specs.declared.Named.{Named}
@@ -258,7 +259,7 @@ read-table (suc count) before s c {ns} e =
 
 -- where name n stands in the table that begins at `cur`
 abbrev place-of : ℕ → ℕ → List (List ℕ) → Asked (ℕ × ℕ)
-place-of cur n names = told (cur + length (eachB bytesB (take n names)) + 1, length (getD names n []))
+place-of cur n names = told (cur + length (flatMap bytesB (take n names)) + 1, length (getD names n []))
 
 pub record Found (s : List ℕ) (cur n : ℕ) (r : Named) : Type 0 where
   pub is : (c : Cur) (names : List (List ℕ)) → Table s c names → c .at ≡ cur → n < length names → nameAsked r ≡ place-of cur n names
@@ -293,9 +294,9 @@ module _ {s : List ℕ} {cur : ℕ} {m : Read} (g : Skips bytes s cur m) where
     next-at c z text = ap (λ (x : Cur). x .at) (here (sym (ap (endOf (c .names) (c .counts)) e) ∙ g .ends (c .names) .is (c .counts) ∙ ap (λ (j : ℕ). forget (bytes s (cursor j (c .names) (c .counts)))) (sym z) ∙ ap forget text))
 
     further : (x : List ℕ) (xs : List (List ℕ)) (n : ℕ) → length x < 128 → b ≡ cur + 1 + length x → place-of b n xs ≡ place-of cur (suc n) (x ∷ xs)
-    unfolding eachB bytesB
+    unfolding flatMap bytesB
     further x xs n small z =
-        let q : b + length (eachB bytesB (take n xs)) + 1 ≡ cur + length (bytesB x ++ eachB bytesB (take n xs)) + 1 = omega (arith, z, length-append (bytesB x) (eachB bytesB (take n xs)), length-append (numB (length x)) x, ap length (number-small (length x) small)) in
+        let q : b + length (flatMap bytesB (take n xs)) + 1 ≡ cur + length (bytesB x ++ flatMap bytesB (take n xs)) + 1 = omega (arith, z, length-append (bytesB x) (flatMap bytesB (take n xs)), length-append (numB (length x)) x, ap length (number-small (length x) small)) in
         ap (λ (j : ℕ). told (j, length (getD xs n []))) q
 
     more-go : {n : ℕ} (r : Named) → Found s b n r → (c : Cur) (names : List (List ℕ)) → Table s c names → c .at ≡ cur → suc n < length names → nameAsked r ≡ place-of cur (suc n) names
@@ -320,7 +321,7 @@ module _ {s : List ℕ} {cur : ℕ} {m : Read} (g : Gives num s cur m) where
   seeking-lost {r = r} k e = found-named (k .on r (record { is = lost-go r e }))
 
   found-go : {v b : ℕ} → m ≡ Number v b → (n : ℕ) → n ≡ 0 → (c : Cur) (names : List (List ℕ)) → Table s c names → c .at ≡ cur → n < length names → nameAsked (N.At b v) ≡ place-of cur n names
-  unfolding nameAsked eachB
+  unfolding nameAsked flatMap
   found-go e zero y c [] none′ z h = absurd (not-suc-le-zero h)
   found-go {v} {b} e zero y c (x ∷ xs) (more′ c₁ c₂ small number one text two t) z h =
       let q = sym (read-is (reads g) (c .counts) e) ∙ ap (λ (j : ℕ). num s (cursor j (c .names) (c .counts))) (sym z) ∙ number in
@@ -374,7 +375,7 @@ module _ {s : List ℕ} (k : ℕ) where
             let many : length (d .laid .table) ≡ l .names = ap length (t .is) ∙ t .many in
             let begin : b ≡ d .laid .begin = ap (λ (c : Cur). c .at) (same-cur (sym (read-is (reads g₂) nothing q) ∙ d .laid .counted)) in
             let spelt : b ≡ length (numB (length (d .laid .table))) = begin ∙ sym (num-reading s _ _ _ (d .laid .counted) .long) ∙ omega (arith, ap (λ (j : ℕ). length (numB j)) many) in
-            ap (λ (j : ℕ). told (j + length (eachB bytesB (take n (d .laid .table))) + 1, length (getD (d .laid .table) n []))) spelt
+            ap (λ (j : ℕ). told (j + length (flatMap bytesB (take n (d .laid .table))) + 1, length (getD (d .laid .table) n []))) spelt
 
         pub name-is : {v b n : ℕ} {z : Named} → r ≡ T.By n → m ≡ Number v b → NameAt s b n z → nameAsked z ≡ getStructureName s k
         name-is {v} {b} {n} q₁ q₂ f = told-is λ a stands w.

@@ -1,16 +1,16 @@
 -- get_structure_name, in the words of the definitions.
 use Prim.Native.Nat.{ℕ, _+_, _<_}
 use mathlib.Core.Path.{_≡_}
-use mathlib.Core.List.{List, []}
+use mathlib.Core.List.{List, [], flatMap}
 use mathlib.Core.Option.{some}
 use lib.ListN.{length, getD, take, getElem?}
 use Rattle.penne.specs.Reader.{Counts, Cur, got, many, nothing}
 use Rattle.penne.specs.Tree.{Spot, Decl, Tree}
 use Rattle.penne.specs.Read.{readDecl, readNames}
-use Rattle.penne.specs.Write.{bytesB, eachB}
+use Rattle.penne.specs.Write.{bytesB}
 use Rattle.penne.specs.Scoper.{Asked, told, untold, nameFrom, structureName}
 use Rattle.fields.specs.Answers.{cursor}
-use Rattle.fields.specs.Names.{part}
+use Rattle.name_table.specs.Names.{part}
 use Rattle.tree.specs.declared.script.Laid.{Laid}
 use Rattle.tree.specs.declared.script.Laid.the-variants as L
 use Rattle.readers.specs.declared.Named.{Named}
@@ -54,4 +54,4 @@ pub record Titles (s : List ℕ) (names at : ℕ) (r : Titled) : Type 0 where
 
 -- whatever table of names is read at `at`, r says where the bytes of its name n stand
 pub record NameAt (s : List ℕ) (at n : ℕ) (r : Named) : Type 0 where
-  pub is : (count : ℕ) (names : List (List ℕ)) (c : Cur) → readNames count [] s (cursor at 0 nothing) ≡ got names c → n < count → nameAsked r ≡ told (at + length (eachB bytesB (take n names)) + 1, length (getD names n []))
+  pub is : (count : ℕ) (names : List (List ℕ)) (c : Cur) → readNames count [] s (cursor at 0 nothing) ≡ got names c → n < count → nameAsked r ≡ told (at + length (flatMap bytesB (take n names)) + 1, length (getD names n []))

@@ -1,13 +1,13 @@
 // scoper.rs: the readers of an answered tree, `get_container_depth`, `is_container`, `get_structure_name`. They need no work memory.
 pub mod find; // a declaration, a structure's name number, a name of the table
 
-use fields::name_table::bytes_at;
 use fields::number::Read;
 use fields::number::number;
 use find::Titled;
 use find::name_at;
 use find::nth_declaration;
 use find::title;
+use name_table::bytes_at;
 use tree::answered_layout;
 use tree::script::Laid;
 ghost use mathlib.Core.Path.{_≡_};

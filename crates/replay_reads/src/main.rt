@@ -2,8 +2,8 @@
 // hexadecimal digits, or `-` for an empty tree; a tree that passes has number 0 and place 0. A line that begins
 // with `a` is about a tree that is read as an answer has it, any other about one that comes in.
 // Prints a line for each case that differs, then how many cases there were and how many differed.
-use fields::name_table::bytes_at;
 use libc::STDOUT_FILENO;
+use name_table::bytes_at;
 use tree::Verdict;
 
 // Where a line is read, what it says so far, and what was found.

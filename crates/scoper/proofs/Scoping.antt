@@ -24,7 +24,7 @@ use Rattle.answer.specs.declared.wrote.Wrote.{Wrote}
 use Rattle.answer.specs.declared.wrote.Wrote.the-variants.{Bytes, NoRoom}
 use Rattle.answer.specs.Out.{laid, pickWrote, wroteOf, Said}
 use Rattle.answer.proofs.Laid.{laid-fits}
-use Rattle.label_references.specs.Table.{Off}
+use Rattle.labels.specs.Table.{Off}
 use Rattle.label_references.specs.Pass.{Pass}
 use Rattle.walk.specs.Walking.{Input}
 use Rattle.variable_references.specs.declared.script.Answered.{Answered}

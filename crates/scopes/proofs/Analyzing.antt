@@ -13,7 +13,7 @@ use Rattle.penne.specs.Tree.{Spot, Ident}
 use Rattle.penne.specs.Find.{first, isIn, firstNamed, resolved}
 use Rattle.penne.specs.Pruning.{UnresolvedPruning, Pruning, Prunings, pruned, poisoned, standing, fate, poisonVariable, listSkip}
 use Rattle.penne.specs.Pruning as R
-use Rattle.penne.specs.Scopes.{Analyzer, withStack, withFunctions, withContainment, withPrunings, nextId, variables, lastLayer, authoritative, pushConstant, pushVariable, declareConstant, declareVariable, prepareToPruneAtGoto, pruneAtLabel, begin}
+use Rattle.penne.specs.Scopes.{Analyzer, withStack, newScope, withFunctions, withContainment, withPrunings, nextId, variables, lastLayer, authoritative, pushConstant, pushVariable, declareConstant, declareVariable, prepareToPruneAtGoto, pruneAtLabel, begin}
 use Rattle.penne.specs.Scopes as Defs
 use Rattle.penne.specs.Containers.{Containment}
 use Rattle.penne.proofs.Searching.{first-hit, first-miss, is-in-here, is-in-past}
@@ -123,7 +123,7 @@ in-scope {ls} {next} cs f h = record { locals = λ {i = i} n. in-right (i .id) c
 
 module _ {s : Scope} {w : List ℕ} {a : Analyzer Spot} (m : Mirrors s w a) where
   -- push_scope
-  pub mirrors-open : {r : Scope} → Opens s r → Mirrors r w (withStack a (record { constants = a .variableStack .constants; locals = a .variableStack .locals; layer = length (a .variableStack .locals) }))
+  pub mirrors-open : {r : Scope} → Opens s r → Mirrors r w (newScope a)
   unfolding withStack
   mirrors-open o = record { holds = o .holds (m .holds); lower = m .lower }
 

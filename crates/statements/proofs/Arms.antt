@@ -34,12 +34,12 @@ use Rattle.walk.specs.Walking.{Moves, Writes, withWrote, Ground, Good, Is, onwa
 use Rattle.walk.proofs.Leading.{leads-read, leads-unread, leads-identified, leads-unidentified, leads-place, leads-unplace, leads-call, leads-end}
 use Rattle.walk.proofs.Writing.{moved, wrote, instead, here-wrote}
 use Rattle.walk.proofs.Copying.{spells-is}
-use Rattle.types.proofs.Trying.{made-used, made-refused}
-use Rattle.expressions.specs.Expressing.{nodes, nodesB, listWalk, Headed}
-use Rattle.expressions.proofs.Onward.{out-same, on, leads-moved, leads-on}
-use Rattle.expressions.proofs.Names.{called-same, number-spelled}
-use Rattle.statements.specs.Stating.{fits, leaving, stmWalk, behind, Follows}
-use Rattle.statements.proofs.Fit.{good-before, good-behind}
+use Rattle.walk.proofs.Using.{made-used, made-refused}
+use Rattle.expression_parts.specs.Expressing.{nodes, nodesB, listWalk, Headed}
+use Rattle.expression_parts.proofs.Onward.{out-same, on, leads-moved, leads-on}
+use Rattle.expression_parts.proofs.Names.{called-same, number-spelled}
+use Rattle.statement_parts.specs.Stating.{fits, leaving, stmWalk, behind, Follows}
+use Rattle.statement_parts.proofs.Fit.{good-before, good-behind}
 
 -- WHAT IS COPIED
 

@@ -1,58 +1,33 @@
 -- Function bodies: statements and value in a scope of their own, then the body's own name.
-use mathlib.Core.Path.{_≡_, refl, sym, ap, subst, _∙_}
-use mathlib.Core.List.{List, _++_, append-assoc}
+use mathlib.Core.Path.{_≡_, refl, sym, subst}
+use mathlib.Core.List.{List, append-assoc}
 use mathlib.Core.Option.{Option}
 use Prim.Native.Nat.{ℕ}
 use native.Mathlib.Omega.{arith}
 use Rattle.penne.specs.Reader.{_>>=_, ret, below, listed}
-use Rattle.penne.specs.Find.{resolved}
 use Rattle.penne.specs.Tree.{Spot, Ident, Poison, ok, err, expr, Expr, stmt, Stm, Body}
 use Rattle.penne.specs.Read.{ident, maybe, option, readPoison, read, toStms, readStmt, readBody}
 use Rattle.penne.specs.Write.{numB, identB, maybeB, optionB, nodeB, bodyB}
 use Rattle.penne.specs.State as S
-use Rattle.penne.specs.Scopes.{inNewScope, withStack, nextId, createAnonymousResolutionId}
+use Rattle.penne.specs.Scopes.{inNewScope, withStack, createAnonymousResolutionId}
 use Rattle.penne.specs.Scopes as Q
 use Rattle.penne.specs.Variables.{analyzeNode, analyzeOption, analyzeInBody, analyzeBody}
 use Rattle.penne.proofs.IdsPass.{still-option}
 use Rattle.fields.specs.declared.number.Read.{Read}
 use Rattle.fields.specs.declared.number.Read.the-variants.{Number, Refused}
-use Rattle.fields.specs.declared.field.Identifier.{Identifier}
-use Rattle.fields.specs.declared.field.Identified.{Identified}
-use Rattle.fields.specs.declared.field.Identified.the-variants as I
-use Rattle.fields.specs.Answers.{cursor, countsOf, identOf, identifiedOf, Gives, Identifies}
+use Rattle.fields.specs.Answers.{Gives}
 use Rattle.answer.specs.declared.wrote.Wrote.{Wrote}
 use Rattle.answer.specs.Out.{Put}
-use Rattle.answer.specs.Parts.{identifierB}
-use Rattle.answer.proofs.Fields.{identifier-bytes}
 use Rattle.label_references.specs.Marked.{markedBody}
 use Rattle.walk.specs.declared.state.Walk.{Walk}
-use Rattle.walk.specs.Walking.{Moves, Writes, Ground, Good, Is, onward, say, sayPoison, Walks, Opens, Closes, Numbers, Grows, opening, closing, numbering, okB}
-use Rattle.walk.proofs.Leading.{walks, leads-refused, leads-call, leads-end, is-same}
-use Rattle.walk.proofs.Writing.{moved, here-moved}
+use Rattle.walk.specs.Walking.{Moves, Writes, Ground, Good, onward, say, sayPoison, Walks, Opens, Closes, Grows, opening, closing, okB}
+use Rattle.walk.proofs.Leading.{walks, leads-call, leads-end, leads-at}
+use Rattle.walk.proofs.Writing.{moved}
 use Rattle.walk.proofs.Choosing.{leads-unmaybe, leads-ok, leads-err}
-use Rattle.types.proofs.Trying.{leads-at, leads-just}
-use Rattle.expressions.proofs.Onward.{out-same, on, leads-moved, leads-on}
-use Rattle.statements.specs.Stating.{isFree, fitsBody, stmWalk, stmsWalk, stmsB, bodyWalk, bodyOkWalk, nameBody}
-use Rattle.statements.proofs.Fit.{ground-same, leaving-same}
+use Rattle.expression_parts.proofs.Onward.{out-same, on, leads-moved, leads-on}
+use Rattle.statement_parts.specs.Stating.{isFree, fitsBody, stmWalk, stmsWalk, stmsB, bodyWalk, bodyOkWalk, nameBody}
+use Rattle.statement_parts.proofs.Fit.{ground-same, leaving-same}
 use Rattle.statements.proofs.Nesting.{grows-stms, good-stms}
-
--- THE BODY'S NAME
-
-name-is : (j : Identifier) (from id : ℕ) (a : Ground) → id ≡ a .st .resolutionId → numbering (say (identifierB (j .name) (j .place) id 0) a) ≡ onward nameBody identB (identOf from j) a
-unfolding nameBody resolved
-name-is j from id a e = out-same (ap (λ (n : ℕ). a .out ++ identifierB (j .name) (j .place) n 0) e ∙ ap (λ (ys : List ℕ). a .out ++ ys) (identifier-bytes (resolved (identOf from j) (a .st .resolutionId) 0)))
-
-module _ {t : List ℕ} {s : Walk} {r₁ : Identified} (g : Identifies t (s .script .names) (s .at) r₁) {o l w : List ℕ} where
-  pub name-not : {i p : ℕ} {r : Walk} {o′ l′ w′ : List ℕ} → r₁ ≡ I.Not i p → Walks t ident (onward nameBody identB) s o l w r o′ l′ w′
-  unfolding identifiedOf
-  name-not e = walks λ h a i. leads-refused (sym (g .is _) ∙ ap (identifiedOf (s .script .names) (s .at) (countsOf (s .counts))) e)
-
-  pub body-named : {j : Identifier} {n : ℕ} {x : Wrote} {s₁ s₂ r : Walk} {o′ : List ℕ} → r₁ ≡ I.Is j n → Put (s .wrote) (identifierB (j .name) (j .place) (s .tables .«next_id») 0) o x o′ → Writes s x s₁ → Moves s₁ n s₂ → Numbers s₂ r → Walks t ident (onward nameBody identB) s o l w r o′ l w
-  unfolding identifiedOf nameBody nextId
-  body-named {j} {n} e put wr mv nb = walks λ h a i. leads-just (sym (g .is _) ∙ ap (identifiedOf (s .script .names) (s .at) (countsOf (s .counts))) e) (record {
-    cur = sym (nb .cur ∙ here-moved mv ∙ ap (λ (y : Walk). cursor n (y .script .names) (countsOf (y .counts))) (wr .is));
-    is = is-same (λ z. name-is j (s .at) (s .tables .«next_id») a (i .when (record { few = omega (arith, z .few); fit = z .fit }) .tables .next)) (nb .is (on i put wr mv));
-  })
 
 -- THE BODY
 

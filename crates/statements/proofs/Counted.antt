@@ -23,12 +23,11 @@ use Rattle.label_references.proofs.Laying.{fits-statements, one-statement}
 use Rattle.containers.proofs.Lists.{and-true}
 use Rattle.walk.specs.declared.state.Walk.{Walk}
 use Rattle.walk.specs.Walking.{Counted as Counts-to, Moves, here, Rest, Ground, Marks, Is, Leads, Walks}
-use Rattle.walk.proofs.Leading.{walks, unend-go, leads-refused, leads-counting}
+use Rattle.walk.proofs.Leading.{walks, unend-go, leads-refused, leads-counting, leads-at}
 use Rattle.walk.proofs.Writing.{here-moved, moved}
 use Rattle.walk.proofs.Writing as W
-use Rattle.types.proofs.Trying.{leads-at}
-use Rattle.statements.specs.Stating.{leaving, stmWalk, behind, Follows, Numbered}
-use Rattle.statements.proofs.Fit.{good-unbehind}
+use Rattle.statement_parts.specs.Stating.{leaving, stmWalk, behind, Follows, Numbered}
+use Rattle.statement_parts.proofs.Fit.{good-unbehind}
 
 -- A STATEMENT THAT CAN NOT BE READ
 

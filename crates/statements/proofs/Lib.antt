@@ -1,9 +1,5 @@
-pub mod Free
-pub mod Fit
 pub mod Counted
 pub mod Arms
 pub mod Nesting
 pub mod Declaring
-pub mod Jumps
 pub mod Bodies
-pub mod Fitting

@@ -16,22 +16,21 @@ use Rattle.fields.specs.declared.number.Read.{Read}
 use Rattle.fields.specs.declared.number.Read.the-variants.{Number, Refused}
 use Rattle.fields.specs.Answers.{Gives, Skips, operator}
 use Rattle.fields.proofs.Chain.{reads}
-use Rattle.tree.proofs.Scripts.{many-length}
+use Rattle.fields.proofs.Back.{many-length}
 use Rattle.answer.specs.declared.wrote.Wrote.{Wrote}
 use Rattle.answer.specs.Out.{Put}
 use Rattle.answer.specs.Parts.{renumbered}
 use Rattle.label_references.specs.Marked.{marked, rest}
 use Rattle.walk.specs.declared.state.Walk.{Walk}
 use Rattle.walk.specs.Walking.{Moves, Writes, Ground, Good, onward, say, Walks, Opens, Closes, Grows, opening, closing}
-use Rattle.walk.proofs.Leading.{walks, leads-read, leads-unread, leads-place, leads-unplace, leads-operator, leads-unoperator, leads-call, leads-end, is-same}
+use Rattle.walk.proofs.Leading.{walks, leads-read, leads-unread, leads-place, leads-unplace, leads-operator, leads-unoperator, leads-call, leads-end, is-same, leads-at}
 use Rattle.walk.proofs.Copying.{spells-is, spells-join, spelled-operator}
 use Rattle.walk.proofs.Choosing.{leads-untagged, leads-first, leads-second}
-use Rattle.types.proofs.Trying.{leads-at}
-use Rattle.expressions.proofs.Onward.{out-same, on, leads-on}
-use Rattle.expressions.proofs.Names.{number-spelled}
-use Rattle.statements.specs.Stating.{isFree, fits, leaving, stmWalk, stmsWalk, stmsB, behind, Follows}
-use Rattle.statements.proofs.Free.{free-same, within-node}
-use Rattle.statements.proofs.Fit.{ground-same, leaving-same, leaving-twice, cons-rest, good-before}
+use Rattle.expression_parts.proofs.Onward.{out-same, on, leads-on}
+use Rattle.expression_parts.proofs.Names.{number-spelled}
+use Rattle.statement_parts.specs.Stating.{isFree, fits, leaving, stmWalk, stmsWalk, stmsB, behind, Follows}
+use Rattle.statement_parts.proofs.Free.{free-same, within-node}
+use Rattle.statement_parts.proofs.Fit.{ground-same, leaving-same, leaving-twice, cons-rest, good-before}
 use Rattle.statements.proofs.Arms.{place-put}
 
 -- IF

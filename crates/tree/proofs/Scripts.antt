@@ -2,8 +2,8 @@
 use mathlib.Core.Path.{_≡_, refl, sym, ap, subst, _∙_}
 use mathlib.Core.Bool.{Bool, true, false}
 use mathlib.Core.List.{List, [], _∷_}
-use mathlib.Core.Option.{Option, none, some}
-use Prim.Native.Nat.{ℕ, zero, suc, _+_, _-_, _≤_, _<_}
+use mathlib.Core.Option.{none, some}
+use Prim.Native.Nat.{ℕ, zero, suc, _-_, _≤_, _<_}
 use native.Mathlib.Omega.{arith}
 use lib.Dec.{ltb}
 use lib.ListN.{length, getD}
@@ -11,7 +11,7 @@ use borrow.Author.Tests.{lt-ltb, le-ltb}
 use Rattle.penne.specs.Reader.{Counts, Cur, Got, got, refused, Reader, _>>=_, ret, num, below, such, many, listed, each, fits, plus, counting, nothing}
 use Rattle.penne.specs.Tree.{Spot, Decl, Tree}
 use Rattle.penne.specs.Read.{readNames, tabled, readTree, ended, decode, incoming, answered, readDecl, declHead, declOf, DeclKind, declKinds, declCounts, kConstant, kFunction, kFunctionHead, kStructure, kImport, kBadDecl, readConstant, readFunction, readFunctionHead, readStructure, readImport}
-use Rattle.penne.proofs.Leading.{same-value, same-cur, never as got-never}
+use Rattle.penne.proofs.Leading.{same-value, never as got-never}
 use Rattle.fields.specs.declared.number.Read.{Read}
 use Rattle.fields.specs.declared.number.Read.the-variants.{Number, Refused}
 use Rattle.fields.specs.declared.counts.Counts as C
@@ -22,33 +22,14 @@ use Rattle.tree.specs.declared.script.Layout.{Layout}
 use Rattle.tree.specs.declared.script.Laid.{Laid}
 use Rattle.tree.specs.declared.script.Laid.the-variants as L
 use Rattle.tree.specs.declared.Verdict.{Verdict}
-use Rattle.tree.specs.declared.Verdict.the-variants as W
 use Rattle.fields.specs.Answers.{cursor, numberOf, endOf, forget, Gives, Reads, Ends, Skips, countsOf, passedOf, Passes}
-use Rattle.fields.specs.Names.{namesFrom, tableOf, Tables}
+use Rattle.name_table.specs.Names.{namesFrom, tableOf, Tables}
 use Rattle.tree.specs.Script.{refusalOf, refusal, verdictOf, start, LaidOut, Lays, notLaidBy, unlaidBy, depthBy, IncomingDepths, AnsweredDepths, DecodedAs, LayoutAs}
-use Rattle.fields.proofs.Chain.{after, here, never, never′, reads, ends-number, ends-ret, ends-call, ends-halt, ends-tail, test-halt, test-passed, test-failed}
+use Rattle.fields.proofs.Back.{bind-case, many-case, many-length, forget-got}
+use Rattle.fields.proofs.Chain.{after, here, never′, reads, ends-number, ends-ret, ends-call, ends-halt, ends-tail, test-halt, test-passed, test-failed}
 use Rattle.fields.proofs.Fields.{goes, stops}
 use Rattle.fields.proofs.Counting.{forget-no, counting-no, counting-fits, counting-full}
 use Rattle.tree.proofs.Statements.{kind-value}
-
--- BACK FROM AN ANSWER
-
-bind-go : {A B X : Type 0} (f : A → Reader B) (s : List ℕ) (q : Got A) {b : B} {d : Cur} → after f s q ≡ got b d → ((a : A) (c : Cur) → q ≡ got a c → f a s c ≡ got b d → X) → X
-bind-go f s (got a c) e next = next a c refl e
-bind-go f s (refused i p) e next = got-never e
-
-pub bind-case : {A B X : Type 0} (m : Reader A) (f : A → Reader B) (s : List ℕ) (c : Cur) {b : B} {d : Cur} → (m >>= f) s c ≡ got b d → ((a : A) (c′ : Cur) → m s c ≡ got a c′ → f a s c′ ≡ got b d → X) → X
-unfolding _>>=_
-bind-case m f s c e next = bind-go f s (m s c) e next
-
-pub many-case : {A X : Type 0} (m : Reader A) (n : ℕ) (s : List ℕ) (c : Cur) {xs : List A} {d : Cur} → many m (suc n) s c ≡ got xs d → ((a : A) (c′ : Cur) (rest : List A) → m s c ≡ got a c′ → many m n s c′ ≡ got rest d → xs ≡ a ∷ rest → X) → X
-unfolding many ret
-many-case m n s c e next = bind-case m _ s c e λ a c₁ h e₁. bind-case (many m n) _ s c₁ e₁ λ rest c₂ h₂ e₂. next a c₁ rest h (h₂ ∙ ap (got rest) (same-cur e₂)) (sym (same-value e₂))
-
-pub many-length : {A : Type 0} (m : Reader A) (n : ℕ) (s : List ℕ) (c : Cur) {xs : List A} {d : Cur} → many m n s c ≡ got xs d → length xs ≡ n
-unfolding many ret
-many-length m zero s c e = ap length (sym (same-value e))
-many-length m (suc n) s c e = many-case m n s c e λ a c₁ rest h₁ h₂ z. ap length z ∙ ap suc (many-length m n s c₁ h₂)
 
 -- DEPTHS AS THEY COME IN
 
@@ -226,11 +207,6 @@ module _ (depth : Decl Spot → Reader ℕ) where
 
   abbrev names-of : ℕ → Reader (Tree Spot)
   names-of n = readNames n [] >>= λ ns. decls-of n ns
-
-pub forget-got : {A : Type 0} (q : Got A) {c : Cur} → got tt c ≡ forget q → (a : A) × (q ≡ got a c)
-unfolding forget
-forget-got (got a d) e = (a, ap (got a) (sym (here e)))
-forget-got (refused i p) e = never e
 
 module _ {s : List ℕ} {m₁ : Read} (g₁ : Gives num s 0 m₁) where
   abbrev few : ℕ → Cur → Bool

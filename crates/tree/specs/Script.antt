@@ -17,7 +17,7 @@ use Rattle.tree.specs.declared.script.Laid.the-variants as L
 use Rattle.tree.specs.declared.Verdict.{Verdict}
 use Rattle.tree.specs.declared.Verdict.the-variants as W
 use Rattle.fields.specs.Answers.{cursor, Ends, Skips}
-use Rattle.fields.specs.Names.{namesFrom}
+use Rattle.name_table.specs.Names.{namesFrom}
 
 -- THE VERDICT
 

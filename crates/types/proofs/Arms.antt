@@ -27,10 +27,10 @@ use Rattle.answer.specs.Out.{Put}
 use Rattle.walk.specs.declared.state.Walk.{Walk}
 use Rattle.walk.specs.declared.fault.Fault.{Fault}
 use Rattle.walk.specs.Walking.{Writes, here, Ground, Is, say, Leads, Walks, faultB, okB, Answers, fine, bad, Tried, Tries}
-use Rattle.walk.proofs.Leading.{never, same-value, same-cur, tries, leads-such, leads-deep, leads-got, leads-call, leads-tried, told-fine, told-bad, is-same}
+use Rattle.walk.proofs.Leading.{never, same-value, same-cur, tries, leads-such, leads-deep, leads-got, leads-call, leads-tried, told-fine, told-bad, is-same, leads-at}
 use Rattle.walk.proofs.Writing.{here-wrote, wrote, out-is, rewound}
 use Rattle.types.specs.Typing.{sayNumber, passing, elementB, namedB}
-use Rattle.types.proofs.Trying.{by, Extends, try-ret, answers-by, afterwards, tries-by, tries-fine, tries-bad, leads-at}
+use Rattle.types.proofs.Trying.{by, Extends, try-ret, answers-by, afterwards, tries-by, tries-fine, tries-bad}
 
 -- ITS KIND
 

@@ -3,3 +3,4 @@ pub mod Arms
 pub mod Rows
 pub mod Maybes
 pub mod Contained
+pub mod Within

@@ -19,10 +19,9 @@ use Rattle.answer.specs.Out.{Put}
 use Rattle.walk.specs.declared.state.Walk.{Walk}
 use Rattle.walk.specs.declared.fault.Fault.{Fault}
 use Rattle.walk.specs.Walking.{Writes, Moves, here, onward, say, sayPoison, Walks, faultB, okB, Answers, fine, bad, Tries}
-use Rattle.walk.proofs.Leading.{such-got, walks, leads-call, leads-tried, leads-end}
+use Rattle.walk.proofs.Leading.{such-got, walks, leads-call, leads-tried, leads-end, leads-at}
 use Rattle.walk.proofs.Writing.{here-moved, here-wrote, moved, wrote, out-is, instead}
 use Rattle.walk.proofs.Choosing.{leads-unmaybe, leads-ok, leads-err, leads-unoption, leads-none, leads-some}
-use Rattle.types.proofs.Trying.{leads-at}
 use Rattle.types.proofs.Arms.{type-ids}
 
 -- ITS BYTES

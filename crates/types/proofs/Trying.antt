@@ -3,11 +3,10 @@ use mathlib.Core.Path.{_≡_, refl, sym, ap, subst, _∙_}
 use mathlib.Core.List.{List, _++_, append-assoc, append-nil}
 use mathlib.Core.Option.{Option, none, some}
 use Prim.Native.Nat.{ℕ}
-use native.Mathlib.Omega.{arith}
 use Rattle.penne.specs.Reader.{Counts, Cur, got, Reader, _>>=_, ret}
-use Rattle.penne.specs.Tree.{Spot, Ident, Poison, Maybe, ok, err}
+use Rattle.penne.specs.Tree.{Spot, Ident, Maybe, ok, err}
 use Rattle.penne.specs.Read.{ident}
-use Rattle.penne.specs.Write.{numB, poisonB}
+use Rattle.penne.specs.Write.{numB}
 use Rattle.penne.specs.State as S
 use Rattle.penne.specs.Scopes.{Analyzer, Pass}
 use Rattle.fields.specs.declared.number.Read.{Read}
@@ -22,10 +21,10 @@ use Rattle.walk.specs.declared.state.Walk.{Walk}
 use Rattle.walk.specs.declared.fault.Fault.{Fault}
 use Rattle.walk.specs.declared.names.Used.{Used}
 use Rattle.walk.specs.declared.names.Used.the-variants as U
-use Rattle.walk.specs.Walking.{Moves, Writes, here, Ground, Good, Is, onward, silently, say, Did, Leads, Walks, faultB, okB, Answers, fine, bad, Tried, Tries, Made, made-as, made-not, Uses}
+use Rattle.walk.specs.Walking.{Moves, Writes, here, Ground, Good, Is, onward, silently, say, Did, Leads, Walks, okB, Answers, fine, bad, Tried, Tries, Uses}
 use Rattle.walk.proofs.Leading.{same-value, same-cur, tries, leads-bind, leads-got, leads-refused, leads-call, leads-tried, is-same}
 use Rattle.walk.proofs.Writing.{here-moved, moved, wrote}
-use Rattle.walk.proofs.Using.{stepped}
+use Rattle.walk.proofs.Using.{stepped, made-used, made-refused}
 use Rattle.types.specs.declared.Typed.{Typed}
 use Rattle.types.specs.declared.Typed.the-variants.{Fine, Bad}
 use Rattle.types.specs.Typing.{walkOf, faultOf}
@@ -131,10 +130,6 @@ module _ {A N A′ B B′ : Type 0} {g : A → N → A′} {h : N → B → B′
 
 -- WHAT IS READ ALONE
 
--- the cursor, said otherwise
-pub leads-at : {A : Type 0} {t : List ℕ} {P : A → Cur → Type 0} {m : Reader A} {c d : Cur} → c ≡ d → Leads m t c P → Leads m t d P
-leads-at {t = t} {P} {m} e k = subst (λ (b : Cur). Leads m t b P) e k
-
 -- all that is read
 pub leads-just : {A : Type 0} {t : List ℕ} {P : A → Cur → Type 0} {m : Reader A} {c : Cur} {y : A} {e : Cur} → m t c ≡ got y e → P y e → Leads m t c P
 leads-just {A} {P = P} {y = y} h k = record { to = λ x d g. let q = sym h ∙ g in subst (λ (z : A). P z d) (same-value q) (subst (λ (b : Cur). P y b) (same-cur q) k) }
@@ -169,14 +164,6 @@ pub copied : {m : Reader ℕ} {t : List ℕ} {s s₁ r : Walk} {o o′ l w : Lis
 copied {n = n} g e i put wr mv = leads-given g e (record { cur = sym (here-moved mv ∙ ap (λ (z : Walk). cursor n (z .script .names) (countsOf (z .counts))) (wr .is)); is = moved (wrote i put wr) mv })
 
 -- A NAME THAT IS USED
-
-pub made-used : {from : ℕ} {u : Used} {y : Maybe Spot (Ident Spot)} {j : Identifier} → Made from u y → u ≡ U.As j → y ≡ ok (identOf from j)
-made-used {from} {j = j} (made-as {j = k}) e = let z : k ≡ j = cc in ap (λ (v : Identifier). ok (identOf from v)) z
-made-used (made-not q) e = absurd (let z : _≡_ {A = ℕ} 0 1 = cc in omega arith)
-
-pub made-refused : {from : ℕ} {u : Used} {y : Maybe Spot (Ident Spot)} {f : Fault} → Made from u y → u ≡ U.Not f → (z : Poison Spot) × (y ≡ err z) × (faultB f ≡ poisonB z)
-made-refused made-as e = absurd (let z : _≡_ {A = ℕ} 0 1 = cc in omega arith)
-made-refused {f = f} (made-not {f = g} {z = z} q) e = let d : g ≡ f = cc in (z, refl, ap faultB (sym d) ∙ q)
 
 module _ {p : Ident Spot → Pass Spot (Maybe Spot (Ident Spot))} (e : Ident Spot → List ℕ) {t : List ℕ} {s : Walk} {o l w : List ℕ} {q : Identified} (g : Identifies t (s .script .names) (s .at) q) where
   pub name-unread : {i n : ℕ} {r : Walk} {f : Option Fault} {o′ l′ w′ : List ℕ} → q ≡ I.Not i n → Tries t ident p e s o l w r f o′ l′ w′

@@ -2,7 +2,7 @@
 use Prim.Native.Nat.{ℕ, zero, suc, _+_, _≤_, _<_}
 use mathlib.Core.Path.{_≡_, refl, sym, ap, subst, _∙_}
 use mathlib.Core.Bool.{Bool, true}
-use mathlib.Core.List.{List, [], _∷_, _++_, map, append-assoc}
+use mathlib.Core.List.{List, [], _∷_, _++_, map, append-assoc, flatMap}
 use mathlib.Core.Option.{Option, none}
 use native.Mathlib.Omega.{arith}
 use lib.Dec.{ltb}
@@ -11,7 +11,7 @@ use borrow.Author.Tests.{ltb-true}
 use Rattle.penne.specs.Tree.{Spot, Ident, Decl, Tree}
 use Rattle.penne.specs.Reader.{Cur, Got, got, refused, _>>=_, ret, such, num, many, each, nothing}
 use Rattle.penne.specs.Read.{readDecl, readNames, readTree}
-use Rattle.penne.specs.Write.{numB, bytesB, listB, eachB, declB, encode}
+use Rattle.penne.specs.Write.{numB, bytesB, listB, declB, encode}
 use Rattle.penne.specs.State as S
 use Rattle.penne.specs.Pruning.{Prunings, noPrunings, offsets, fate}
 use Rattle.penne.specs.Containers.{Container, Containment, withContainers, determineContainerDepths}
@@ -23,7 +23,7 @@ use Rattle.fields.specs.declared.counts.Counts as C
 use Rattle.tree.specs.declared.script.Layout.{Layout}
 use Rattle.fields.specs.Answers.{cursor, countsOf}
 use Rattle.tree.specs.Script.{LaidOut, start}
-use Rattle.tree.proofs.Scripts.{many-length}
+use Rattle.fields.proofs.Back.{many-length}
 use Rattle.answer.specs.declared.wrote.Wrote.{Wrote}
 use Rattle.answer.specs.declared.wrote.Wrote.the-variants.{Bytes}
 use Rattle.answer.specs.Out.{Put, Said, Within, wroteOf}
@@ -38,15 +38,17 @@ use Rattle.walk.specs.declared.state.Script.{Script}
 use Rattle.walk.specs.declared.state.Walk.{Walk}
 use Rattle.walk.specs.Walking.{here, containersIn, functionsIn, Whose, nobody, Tables, Rest, Ground, Marks, Stands, Is, Did, Leads, Input, Walks}
 use Rattle.walk.proofs.Leading.{same-value, leads-such}
-use Rattle.variable_references.specs.declared.predeclare.Predeclared.{Predeclared}
+use Rattle.stages.specs.declared.predeclare.Predeclared.{Predeclared}
 use Rattle.variable_references.specs.declared.script.Answered.{Answered}
-use Rattle.variable_references.specs.Declaring.{declsWalk}
-use Rattle.variable_references.specs.Stages.{PredeclaresAll, SaysNames, Started, DeterminesIn, SaysDepths, depthsIn}
+use Rattle.declaration_parts.specs.Declaring.{declsWalk}
+use Rattle.stages.specs.Stages.{PredeclaresAll, SaysNames, DeterminesIn, SaysDepths, depthsIn}
+use Rattle.variable_references.specs.Whole.{Started}
 use Rattle.variable_references.specs.Whole.{Prepared, treeOf, References}
 use Rattle.penne.proofs.IdsPass.{face, SameNames}
 use Rattle.penne.proofs.IdsWhole.{still-decls}
-use Rattle.variable_references.proofs.Wholly.{predeclared, firstRest, first, wholly, walk-kept, each-none}
-use Rattle.variable_references.proofs.Depths.{predeclared-same, face-depths, depths-whole, rowed-whole}
+use Rattle.stages.proofs.Bytes.{each-none}
+use Rattle.declaration_parts.proofs.Wholly.{predeclared, firstRest, first, wholly, walk-kept}
+use Rattle.declaration_parts.proofs.Depths.{predeclared-same, face-depths, depths-whole, rowed-whole}
 use Rattle.variable_references.proofs.Beginning.{Clean, clean-first, tabled-first, blank-first, mirrors-owns, marks-first, fate-none}
 
 -- a tree that is read has at most 1,024 names
@@ -124,14 +126,14 @@ within-said : {w : Wrote} {o xs : List ℕ} {room : ℕ} → Said w o xs room �
 within-said {w} {o} {xs} p = Ch.put-within (Ch.start (record { told = p .told ∙ ap (wroteOf (length xs)) (sym (p .long)); left = sym (p .left) }))
 
 -- what is written in the end is the encoding of the answered tree
-encoded : {s : List ℕ} {l : Layout} (t : LaidOut s l) → ((listB bytesB (t .table) ++ numB (l .count)) ++ eachB declB (analyze (t .table) (t .decls) .0)) ++ eachB numB (map (depthOf (determineContainerDepths (analyze (t .table) (t .decls) .1 .containment .containers))) (analyze (t .table) (t .decls) .0)) ≡ encode (answeredTree (treeOf t))
+encoded : {s : List ℕ} {l : Layout} (t : LaidOut s l) → ((listB bytesB (t .table) ++ numB (l .count)) ++ flatMap declB (analyze (t .table) (t .decls) .0)) ++ flatMap numB (map (depthOf (determineContainerDepths (analyze (t .table) (t .decls) .1 .containment .containers))) (analyze (t .table) (t .decls) .0)) ≡ encode (answeredTree (treeOf t))
 unfolding encode answeredTree postanalyzed listB
 encoded {s} {l} t =
     let ds = analyze (t .table) (t .decls) .0 in
-    let names = numB (length (t .table)) ++ eachB bytesB (t .table) in
-    let depths = eachB numB (map (depthOf (determineContainerDepths (analyze (t .table) (t .decls) .1 .containment .containers))) ds) in
+    let names = numB (length (t .table)) ++ flatMap bytesB (t .table) in
+    let depths = flatMap numB (map (depthOf (determineContainerDepths (analyze (t .table) (t .decls) .1 .containment .containers))) ds) in
     let n : l .count ≡ length ds = sym (length-analyzed (t .table) (t .decls) ∙ many-length readDecl (l .count) s _ (t .read)) in
-    append-assoc (names ++ numB (l .count)) (eachB declB ds) depths ∙ append-assoc names (numB (l .count)) (eachB declB ds ++ depths) ∙ ap (λ (x : List ℕ). names ++ x) (sym (append-assoc (numB (l .count)) (eachB declB ds) depths) ∙ ap (λ (m : ℕ). (numB m ++ eachB declB ds) ++ depths) n)
+    append-assoc (names ++ numB (l .count)) (flatMap declB ds) depths ∙ append-assoc names (numB (l .count)) (flatMap declB ds ++ depths) ∙ ap (λ (x : List ℕ). names ++ x) (sym (append-assoc (numB (l .count)) (flatMap declB ds) depths) ∙ ap (λ (m : ℕ). (numB m ++ flatMap declB ds) ++ depths) n)
 
 module _ {s : List ℕ} {l : Layout} {o k w : List ℕ} where
   pub referenced : {w₁ w₃ w₄ o₁ o₂ o₃ o₄ k₃ : List ℕ} {b : Predeclared} {v x v₄ : Wrote} {st r : Walk} → PredeclaresAll s l w b w₁ → SaysNames s o v o₁ → Put v (numB (l .count)) o₁ x o₂ → Started s l b x st → Walks s (many readDecl (l .count)) declsWalk st o₂ k w₁ r o₃ k₃ w₃
@@ -157,11 +159,11 @@ module _ {s : List ℕ} {l : Layout} {o k w : List ℕ} where
         let held : Holds (r .script .containers) (containersIn w₃) (analyze (t .table) ds .1 .containment) = subst (λ (u : Analyzer Spot). Holds (r .script .containers) (containersIn w₃) (u .containment)) (whole .st) (stands .tables .containers) in
         let long = stands .tables .long in
         let held₄ = di .does long .determines (analyze (t .table) ds .1 .containment) held in
-        let put : Said (r .wrote) o₃ (out ++ eachB declB (analyze (t .table) ds .0)) (length o) = subst (λ (n : ℕ). Said (r .wrote) o₃ (out ++ eachB declB (analyze (t .table) ds .0)) n) (kept .room) (said-same (whole .out) (stands .put)) in
+        let put : Said (r .wrote) o₃ (out ++ flatMap declB (analyze (t .table) ds .0)) (length o) = subst (λ (n : ℕ). Said (r .wrote) o₃ (out ++ flatMap declB (analyze (t .table) ds .0)) n) (kept .room) (said-same (whole .out) (stands .put)) in
         let names : r .script .names ≡ l .names = ap (λ (z : Script). z .names) (stands .script ∙ kept .script) ∙ g .names in
         let depths = sd .does t names (omega (arith, long)) _ held₄ (rowed-whole ds deep faces) (within-said put) in
         let list : Said (r .listed) k₃ (words (skipList (treeOf t))) (length k) = subst (λ (n : ℕ). Said (r .listed) k₃ (words (skipList (treeOf t))) n) (kept .slots) (subst (λ (u : Analyzer Spot). Said (r .listed) k₃ (words (offsets (u .prunings .skips))) (end .rest .slots)) (whole .st) (stands .skip)) in
-        (said-same (ap (λ (n : List ℕ). (out ++ eachB declB (analyze (t .table) ds .0)) ++ eachB numB n) (sym (depths-whole (t .table) ds deep faces)) ∙ encoded t) (said-put put depths), list);
+        (said-same (ap (λ (n : List ℕ). (out ++ flatMap declB (analyze (t .table) ds .0)) ++ flatMap numB n) (sym (depths-whole (t .table) ds deep faces)) ∙ encoded t) (said-put put depths), list);
   }
     where
       cur-is : Started s l b x st → here st ≡ cursor (l .first) (l .names) (countsOf uncounted)

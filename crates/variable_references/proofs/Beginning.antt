@@ -27,16 +27,18 @@ use Rattle.scopes.specs.Mirror.{Mirrors}
 use Rattle.scopes.proofs.Analyzing.{mirrors-begin, mirrors-next, mirrors-containment, mirrors-functions, mirrors-constant}
 use Rattle.containers.specs.Table.{Holds}
 use Rattle.containers.proofs.Starting.{holds-none, holds-no-function}
-use Rattle.label_references.specs.Outcomes.{outcomesDecls, labelsInDecls}
+use Rattle.labels.specs.Outcomes.{outcomesDecls, labelsInDecls}
 use Rattle.label_references.specs.Pass.{fresh, uncounted}
-use Rattle.label_references.specs.Table as L
+use Rattle.labels.specs.Table.{Told}
+use Rattle.labels.proofs.Along.{along-length}
+use Rattle.scopes.specs.Labels.{Along, stop, step}
 use Rattle.label_references.proofs.Growing.{labels-few, statements-few}
 use Rattle.walk.specs.Walking.{scopesIn, containersIn, functionsIn, Lower, Input, Marks}
 use Rattle.walk.specs.declared.state.Script.{Script}
 use Rattle.walk.proofs.Tables.{marks-kept, part-word}
-use Rattle.variable_references.proofs.Wholly.{firstRest}
+use Rattle.declaration_parts.proofs.Wholly.{firstRest}
 use Rattle.variable_references.specs.Whole.{Prepared}
-use Rattle.variable_references.specs.Stages.{Above, Tabled, MainName}
+use Rattle.stages.specs.Stages.{Above, Tabled, MainName}
 
 -- THE TABLES AT FIRST
 
@@ -129,14 +131,10 @@ clean-first ds = clean-owns ds begin (record { layer = refl; locals = refl; whos
 
 -- WHAT THE LABEL PASS DECIDED
 
-told-at : {w : List ℕ} (k : ℕ) (os : List ℕ) {n : ℕ} → L.Along (L.Told w) k os n → (j : ℕ) → j < length os → getD w (k + j) 0 ≡ getD os j 0
-told-at k [] L.stop j h = absurd (omega arith)
-told-at {w} k (o ∷ os) (L.step p a) zero h = let e : k + 0 ≡ k = omega arith in ap (λ (i : ℕ). getD w i 0) e ∙ p .is
-told-at {w} k (o ∷ os) (L.step p a) (suc j) h = let e : k + suc j ≡ k + 1 + j = omega arith in ap (λ (i : ℕ). getD w i 0) e ∙ told-at (k + 1) os a j (omega arith)
-
-along-end : {w : List ℕ} (k : ℕ) (os : List ℕ) {n : ℕ} → L.Along (L.Told w) k os n → n ≡ k + length os
-along-end k [] L.stop = omega arith
-along-end k (o ∷ os) (L.step p a) = omega (arith, along-end (k + 1) os a)
+told-at : {w : List ℕ} (k : ℕ) (os : List ℕ) {n : ℕ} → Along (Told w) k os n → (j : ℕ) → j < length os → getD w (k + j) 0 ≡ getD os j 0
+told-at k [] stop j h = absurd (omega arith)
+told-at {w} k (o ∷ os) (step p a) zero h = let e : k + 0 ≡ k = omega arith in ap (λ (i : ℕ). getD w i 0) e ∙ p .is
+told-at {w} k (o ∷ os) (step p a) (suc j) h = let e : k + suc j ≡ k + 1 + j = omega arith in ap (λ (i : ℕ). getD w i 0) e ∙ told-at (k + 1) os a j (omega arith)
 
 module _ {s : List ℕ} {l : Layout} {t : LaidOut s l} {w : List ℕ} (p : Prepared t w) where
   told-first : (k : ℕ) → 0 + k < 2048 → getD w (0 + k) 0 ≡ getD (outcomesDecls (t .decls) (fresh 1)) k 0
@@ -144,7 +142,7 @@ module _ {s : List ℕ} {l : Layout} {t : LaidOut s l} {w : List ℕ} (p : Prepa
     where
       go : Dec (k < length (outcomesDecls (t .decls) (fresh 1))) → getD w (0 + k) 0 ≡ getD (outcomesDecls (t .decls) (fresh 1)) k 0
       go (yes d) = told-at 0 _ (p .told) k d
-      go (no d) = p .zero (0 + k) (λ a b. absurd (omega (arith, along-end 0 _ (p .told)))) (λ a b. absurd (omega arith)) ∙ sym (List·getD-eq-default (outcomesDecls (t .decls) (fresh 1)) 0 (omega arith))
+      go (no d) = p .zero (0 + k) (λ a b. absurd (omega (arith, along-length (p .told)))) (λ a b. absurd (omega arith)) ∙ sym (List·getD-eq-default (outcomesDecls (t .decls) (fresh 1)) 0 (omega arith))
 
   -- the marks that the walk begins with
   pub marks-first : {w′ : List ℕ} (room slots : ℕ) (k : Script) → Above w w′ → MainName s (k .main) → Input s → k .names ≡ l .names → Marks uncounted w′ (firstRest t room slots k)

@@ -26,16 +26,17 @@ use Rattle.containers.specs.Calls.{ofKind}
 use Rattle.containers.proofs.Lists.{and-true}
 use Rattle.walk.specs.declared.state.Walk.{Walk}
 use Rattle.walk.specs.Walking.{Counted, Ground, Good, Is}
-use Rattle.walk.proofs.Leading.{walks, unend-go, leads-refused}
+use Rattle.walk.proofs.Leading.{walks, unend-go, leads-refused, leads-at}
 use Rattle.walk.proofs.Writing as W
 use Rattle.walk.proofs.Identifying.{identified-low}
-use Rattle.variable_references.specs.declared.declaration.Start.{Start}
-use Rattle.variable_references.specs.declared.declaration.Before.the-variants as B
-use Rattle.variable_references.specs.Declaring.{clear, fitContainer, fitFunction}
-use Rattle.variable_references.specs.Heading.{Heading, ContainerBefore, FunctionBefore, counting, begunContainer, begunFunction, NewContainer, NewFunction, Arm, constantParts, functionParts, headParts, structureParts, own, Keeps}
-use Rattle.variable_references.proofs.Parting.{leads-at}
-use Rattle.variable_references.proofs.Arms.{below-low, after, leads-decl}
-use Rattle.variable_references.proofs.Dropping.{told-no, refers-container, refers-function}
+use Rattle.stages.specs.declared.heads.Start.{Start}
+use Rattle.stages.specs.declared.before.Before.the-variants as B
+use Rattle.declaration_parts.specs.Declaring.{clear, fitContainer, fitFunction}
+use Rattle.stages.specs.Heads.{own}
+use Rattle.stages.specs.Before.{ContainerBefore, FunctionBefore}
+use Rattle.declaration_parts.specs.Heading.{Heading, counting, begunContainer, begunFunction, NewContainer, NewFunction, Arm, constantParts, functionParts, headParts, structureParts, Keeps}
+use Rattle.declaration_parts.proofs.Arms.{below-low, after, leads-decl}
+use Rattle.declaration_parts.proofs.Dropping.{told-no, refers-container, refers-function}
 
 -- IT IS COUNTED
 

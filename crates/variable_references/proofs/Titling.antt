@@ -20,17 +20,20 @@ use Rattle.tree.proofs.Statements as T
 use Rattle.label_references.specs.Marked.{markedDecl}
 use Rattle.walk.specs.declared.state.Walk.{Walk}
 use Rattle.walk.specs.Walking.{here, Moves, Rest, Ground, say, sayPoison, Leads, Walks}
-use Rattle.walk.proofs.Leading.{walks, unend-go, leads-refused, leads-bind, leads-call, leads-got, leads-end, leads-counting, is-same}
+use Rattle.walk.proofs.Leading.{walks, unend-go, leads-refused, leads-bind, leads-call, leads-got, leads-end, leads-counting, is-same, leads-at}
 use Rattle.walk.proofs.Writing.{here-moved, moved}
-use Rattle.variable_references.specs.declared.declaration.Start.{Start}
-use Rattle.variable_references.specs.declared.declaration.Head.{Head}
-use Rattle.variable_references.specs.declared.declaration.Head.the-variants as H
-use Rattle.variable_references.specs.declared.declaration.Before.{Before}
-use Rattle.variable_references.specs.declared.declaration.Before.the-variants as B
-use Rattle.variable_references.specs.Declaring.{predeclaredBy, fitDecl, rowsOf, behind, declWalk}
-use Rattle.variable_references.specs.Heading.{Heads, Heading, DeclaredBefore, counting, Keeps}
-use Rattle.variable_references.proofs.Parting.{leads-at, told-named, told-import, told-poison, told-unread}
-use Rattle.variable_references.proofs.Arms.{below-low, after}
+use Rattle.stages.specs.declared.heads.Start.{Start}
+use Rattle.stages.specs.declared.heads.Head.{Head}
+use Rattle.stages.specs.declared.heads.Head.the-variants as H
+use Rattle.stages.specs.declared.before.Before.{Before}
+use Rattle.stages.specs.declared.before.Before.the-variants as B
+use Rattle.stages.specs.Heads.{rowsOf}
+use Rattle.declaration_parts.specs.Declaring.{predeclaredBy, fitDecl, behind, declWalk}
+use Rattle.stages.specs.Heads.{Heads}
+use Rattle.stages.specs.Before.{DeclaredBefore}
+use Rattle.declaration_parts.specs.Heading.{Heading, counting, Keeps}
+use Rattle.stages.proofs.Parting.{told-named, told-import, told-poison, told-unread}
+use Rattle.declaration_parts.proofs.Arms.{below-low, after}
 
 -- THE FIRST OF ITS NAME
 

@@ -1,5 +1,1 @@
-pub mod Declaring
-pub mod Heading
-pub mod Entering
-pub mod Stages
 pub mod Whole

@@ -1,7 +1,7 @@
 -- What is copied from the tree number by number is what the encoder gives for what was read there.
 use mathlib.Core.Path.{_≡_, refl, sym, ap, subst, _∙_}
 use mathlib.Core.Bool.{Bool, true, false, _&&_, _||_, not}
-use mathlib.Core.List.{List, [], _∷_, _++_, append-nil, append-assoc}
+use mathlib.Core.List.{List, [], _∷_, _++_, append-nil, append-assoc, flatMap}
 use Prim.Native.Nat.{ℕ, zero, suc, _+_, _*_, _%_, _^_, _≤_}
 use native.Mathlib.Omega.{arith}
 use lib.Dec.{ltb, eqb}
@@ -10,7 +10,7 @@ use borrow.Author.Tests.{eqb-true}
 use Rattle.penne.specs.Reader.{Cur, Got, got, refused, Reader, _>>=_, ret, such, num, below, many, groups, lastGroup, moved, nothing}
 use Rattle.penne.specs.Tree.{Spot, poison, earlier}
 use Rattle.penne.specs.Read.{place, name, ident, poisonFields, poisonOf, readPoison}
-use Rattle.penne.specs.Write.{numB, placeB, eachB, identB, poisonB}
+use Rattle.penne.specs.Write.{numB, placeB, identB, poisonB}
 use Rattle.fields.specs.Answers.{cursor, countsOf, Ends, twoPlaces, operator}
 use Rattle.answer.specs.Parts.{renumbered}
 use Rattle.answer.proofs.Spelling.{num-reading}
@@ -132,8 +132,8 @@ unfolding name
 spelled-name = spelled-such _ 5 spelled-num
 
 -- items one after another
-pub spelled-many : {A : Type 0} {m : Reader A} {e : A → List ℕ} → Spelled m e → (n : ℕ) → Spelled (many m n) (eachB e)
-unfolding many eachB
+pub spelled-many : {A : Type 0} {m : Reader A} {e : A → List ℕ} → Spelled m e → (n : ℕ) → Spelled (many m n) (flatMap e)
+unfolding many flatMap
 spelled-many p zero = spelled-by λ s c. leads-got [] none
 spelled-many {m = m} p (suc n) = spelled-by λ s c. leads-bind m _ λ y b h. leads-bind (many m n) _ λ ys d g. leads-got (y ∷ ys) (spells-join (p .is s c y b h) (spelled-many p n .is s b ys d g))
 

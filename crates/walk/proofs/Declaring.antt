@@ -22,7 +22,8 @@ use Rattle.walk.specs.declared.names.Place.{Place}
 use Rattle.walk.specs.declared.names.Place.the-variants as P
 use Rattle.walk.specs.declared.names.Named.the-variants as N
 use Rattle.walk.specs.declared.names.Used.the-variants as U
-use Rattle.walk.specs.Walking.{Takes, here, scopesIn, Whose, nobody, somebody, Good, Is, silently, Made, made-as, made-not, walkOf, usedOf, Declares, duplicateFault, resolvedTo}
+use Rattle.answer.specs.Parts.{resolvedTo}
+use Rattle.walk.specs.Walking.{Takes, here, scopesIn, Whose, nobody, somebody, Good, Is, silently, Made, made-as, made-not, walkOf, usedOf, Declares, duplicateFault}
 use Rattle.walk.specs.Calls.{PlaceOfVariable, Pushes, DeclaresBy}
 use Rattle.walk.proofs.Early.{early-declare}
 use Rattle.walk.proofs.Tables.{scopes-changed, marks-kept, lower-scopes}

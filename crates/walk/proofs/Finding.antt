@@ -24,7 +24,7 @@ use Rattle.fields.specs.declared.field.Identified.the-variants as I
 use Rattle.fields.specs.declared.counts.Counts as K
 use Rattle.fields.proofs.Fields.{getD-past}
 use Rattle.fields.specs.Answers.{cursor, numberOf, endOf, identifiedOf, Gives, Ends, Identifies}
-use Rattle.tree.proofs.Scripts.{forget-got}
+use Rattle.fields.proofs.Back.{forget-got}
 use Rattle.nodes.proofs.Types.{run}
 use Rattle.fields.proofs.Numbers.{such-got as such-is}
 use Rattle.containers.specs.declared.containers.Found.{Found}

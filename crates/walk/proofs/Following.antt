@@ -1,13 +1,11 @@
 -- An edge is handed over: by what found_container_1 answered.
-use mathlib.Core.Path.{_≡_, refl, sym, ap, subst, _∙_}
-use mathlib.Core.Bool.{Bool, true, false}
+use mathlib.Core.Path.{_≡_, sym, ap, subst, _∙_}
 use mathlib.Core.List.{List}
 use mathlib.Core.Option.{Option}
 use Prim.Native.Nat.{ℕ, _<_}
 use native.Mathlib.Omega.{arith}
 use borrow.Rule.Slice.PartMut.{putMid}
-use Rattle.penne.specs.Tree.{Spot, Ident, Maybe, Ty}
-use Rattle.penne.specs.Variables.{analyzeWellfoundedness}
+use Rattle.penne.specs.Tree.{Spot, Ident, Maybe}
 use Rattle.penne.specs.Containers.{idOf, foundContainer1}
 use Rattle.penne.specs.Scopes.{Analyzer, withContainment}
 use Rattle.fields.specs.declared.counts.Counts as K
@@ -23,8 +21,7 @@ use Rattle.walk.specs.declared.edges.Holder.{Holder}
 use Rattle.walk.specs.declared.edges.Edge.{Edge}
 use Rattle.walk.specs.declared.edges.Edge.the-variants as E
 use Rattle.walk.specs.Walking.{containersIn, Tables, poisonedFault}
-use Rattle.walk.specs.declared.edges.Holding.the-variants as H
-use Rattle.walk.specs.Calls.{Member, Edged, fine, bad, EdgeTo, Cyclical, Stays, stays, goes, heldBy, Decides}
+use Rattle.walk.specs.Calls.{Member, Edged, fine, bad, EdgeTo, Cyclical}
 use Rattle.walk.proofs.Tables.{containers-changed, lower-containers}
 use Rattle.walk.proofs.Faults.{poisoned-bytes}
 
@@ -60,23 +57,3 @@ module _ {k : Script} (h : Holder) {n : ℕ} {w : List ℕ} {r : Contained} {ys 
 
 pub edge-told : {k : Script} {h : Holder} {n : ℕ} {w w′ : List ℕ} {f g : Fault} → f ≡ g → EdgeTo k h n w (E.Bad g) w′ → EdgeTo k h n w (E.Bad f) w′
 edge-told {k} {h} {n} {w} {w′} e j = subst (λ (x : Fault). EdgeTo k h n w (E.Bad x) w′) (sym e) j
-
--- MEMBERS
-
-goes-holds : (c : Ident Spot) (t : Maybe Spot (Ty Spot)) {i : Ident Spot} {m : Maybe Spot (Ident Spot)} {named : Bool} → Stays i named m → named ≡ false → heldBy H.Nobody c i t ≡ analyzeWellfoundedness c m t
-unfolding heldBy analyzeWellfoundedness
-goes-holds c t goes e = refl
-goes-holds c t stays e = absurd (let z : _≡_ {A = ℕ} 0 1 = cc in omega arith)
-
-stays-holds : (h : Holder) (c : Ident Spot) (t : Maybe Spot (Ty Spot)) {i : Ident Spot} {m : Maybe Spot (Ident Spot)} {named : Bool} → Stays i named m → named ≡ true → heldBy (H.By h) c i t ≡ analyzeWellfoundedness c m t
-unfolding heldBy analyzeWellfoundedness
-stays-holds h c t stays e = refl
-stays-holds h c t goes e = absurd (let z : _≡_ {A = ℕ} 0 1 = cc in omega arith)
-
--- one whose name was refused
-pub decides-nobody : (named : Bool) {row place : ℕ} → named ≡ false → Decides named row place H.Nobody
-decides-nobody named e = record { holder = λ h q. absurd (let z : _≡_ {A = ℕ} 0 1 = cc in omega arith); edges = λ c i m k t. goes-holds c t k e }
-
--- one that has its name
-pub decides-by : (named : Bool) {row place : ℕ} → named ≡ true → Decides named row place (H.By (record { row = row; «is_member» = true; member = place }))
-decides-by named e = record { holder = λ h q. cc; edges = λ c i m k t. stays-holds _ c t k e }

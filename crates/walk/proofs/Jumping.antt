@@ -15,7 +15,7 @@ use Rattle.answer.specs.Out.{Said}
 use Rattle.scopes.specs.Jumps as J
 use Rattle.scopes.specs.Table.{Label, Keeps}
 use Rattle.scopes.proofs.Analyzing.{mirrors-goto, mirrors-label}
-use Rattle.label_references.specs.Table.{Named}
+use Rattle.scopes.specs.Labels.{Named}
 use Rattle.walk.specs.declared.state.Walk.{Walk}
 use Rattle.walk.specs.Walking.{scopesIn, Ground, Good, Is, silently}
 use Rattle.walk.proofs.Early.{early-goto, early-label}

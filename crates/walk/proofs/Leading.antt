@@ -22,7 +22,7 @@ use Rattle.fields.specs.declared.counts.Passed.{Passed}
 use Rattle.fields.specs.declared.counts.Passed.the-variants as Q
 use Rattle.fields.specs.Answers.{cursor, numberOf, endOf, forget, identOf, identifiedOf, countsOf, passedOf, Gives, Reads, Ends, Skips, Identifies, Passes, twoPlaces, operator}
 use Rattle.fields.proofs.Chain.{Node, places-same, operator-same}
-use Rattle.tree.proofs.Scripts.{forget-got}
+use Rattle.fields.proofs.Back.{forget-got}
 use Rattle.walk.specs.declared.state.Walk.{Walk}
 use Rattle.walk.specs.declared.fault.Fault.{Fault}
 use Rattle.walk.specs.Walking.{here, Ground, Good, Stands, Is, onward, silently, Did, Leads, Input, Walks, faultB, okB, Answers, fine, bad, Tried, Tries}
@@ -81,6 +81,10 @@ tries k = record { does = k }
 module _ {A : Type 0} {t : List ℕ} {P : A → Cur → Type 0} where
   pub leads-same : {m m′ : Reader A} {c : Cur} → m ≡ m′ → Leads m′ t c P → Leads m t c P
   leads-same {c = c} h k = record { to = λ x d g. k .to x d (sym (ap (λ (f : Reader A). f t c) h) ∙ g) }
+
+  -- at the same place, said otherwise
+  pub leads-at : {m : Reader A} {c d : Cur} → c ≡ d → Leads m t c P → Leads m t d P
+  leads-at {m} e k = subst (λ (b : Cur). Leads m t b P) e k
 
   -- one thing and then the rest
   pub leads-bind : {C : Type 0} (m : Reader C) (f : C → Reader A) {c : Cur} → ((y : C) (e : Cur) → m t c ≡ got y e → Leads (f y) t e P) → Leads (m >>= f) t c P

@@ -18,7 +18,7 @@ use Rattle.fields.specs.declared.counts.Counts as K
 use Rattle.scopes.specs.Table.{Keeps}
 use Rattle.scopes.specs.Mirror.{Mirrors}
 use Rattle.scopes.proofs.Analyzing.{mirrors-containment}
-use Rattle.label_references.specs.Table as L
+use Rattle.scopes.specs.Labels as L
 use Rattle.containers.specs.Table.{idAt, Holds}
 use Rattle.containers.specs.Calls.{ofKind}
 use Rattle.containers.specs.Functions.{HoldsFunctions}

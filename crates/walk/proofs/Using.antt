@@ -5,7 +5,8 @@ use mathlib.Core.List.{List, [], _∷_}
 use mathlib.Core.Option.{Option, none, some}
 use Prim.Native.Nat.{ℕ, zero, suc}
 use native.Mathlib.Omega.{arith}
-use Rattle.penne.specs.Tree.{Spot, Ident, poison, Maybe, ok, err}
+use Rattle.penne.specs.Tree.{Spot, Ident, Poison, poison, Maybe, ok, err}
+use Rattle.penne.specs.Write.{poisonB}
 use Rattle.penne.specs.Find.{firstNamed, resolved}
 use Rattle.penne.specs.State.{ret}
 use Rattle.penne.specs.Containers.{structures, constants}
@@ -25,7 +26,7 @@ use Rattle.walk.specs.declared.names.Used.{Used}
 use Rattle.walk.specs.declared.names.Used.the-variants as U
 use Rattle.walk.specs.declared.names.Place.{Place}
 use Rattle.walk.specs.declared.names.Place.the-variants as P
-use Rattle.walk.specs.Walking.{Tables, Ground, Good, Stands, silently, Made, made-as, made-not, Uses, undefinedFault, duplicateFault}
+use Rattle.walk.specs.Walking.{Tables, Ground, Good, Stands, silently, Made, made-as, made-not, Uses, faultB, undefinedFault, duplicateFault}
 use Rattle.walk.specs.Calls.{FindsIn, FindsFunctionIn, FunctionAt, Placed, placed, nowhere, PlaceOfLocal, NoConstant, useRow, UsesRow}
 use Rattle.walk.proofs.Faults.{undefined-bytes, duplicate-bytes, one-name, their-places}
 
@@ -228,3 +229,13 @@ module _ {s : Walk} {i : Identifier} {w w′ : List ℕ} where
 
 pub not-told : {s : Walk} {i : Identifier} {w : List ℕ} {f g : Fault} → f ≡ g → NoConstant s i w (U.Not g) → NoConstant s i w (U.Not f)
 not-told {s} {i} {w} e k = subst (λ (x : Fault). NoConstant s i w (U.Not x)) (sym e) k
+
+-- WHAT A LOOKED UP NAME IS
+
+pub made-used : {from : ℕ} {u : Used} {y : Maybe Spot (Ident Spot)} {j : Identifier} → Made from u y → u ≡ U.As j → y ≡ ok (identOf from j)
+made-used {from} {j = j} (made-as {j = k}) e = let z : k ≡ j = cc in ap (λ (v : Identifier). ok (identOf from v)) z
+made-used (made-not q) e = absurd (let z : _≡_ {A = ℕ} 0 1 = cc in omega arith)
+
+pub made-refused : {from : ℕ} {u : Used} {y : Maybe Spot (Ident Spot)} {f : Fault} → Made from u y → u ≡ U.Not f → (z : Poison Spot) × (y ≡ err z) × (faultB f ≡ poisonB z)
+made-refused made-as e = absurd (let z : _≡_ {A = ℕ} 0 1 = cc in omega arith)
+made-refused {f = f} (made-not {f = g} {z = z} q) e = let d : g ≡ f = cc in (z, refl, ap faultB (sym d) ∙ q)

@@ -4,6 +4,7 @@ use mathlib.Core.Bool.{true}
 use mathlib.Core.List.{List, _++_}
 use Prim.Native.Nat.{ℕ, _≤_}
 use native.Mathlib.Omega.{arith}
+use Rattle.penne.specs.Reader.{Cur}
 use Rattle.penne.specs.Tree.{Spot}
 use Rattle.penne.specs.Pruning.{offsets}
 use Rattle.penne.specs.Scopes.{Analyzer}
@@ -20,6 +21,10 @@ use Rattle.walk.specs.Walking.{Moves, Writes, Counted, here, Rest, Groun
 
 pub here-moved : {s : Walk} {n : ℕ} {r : Walk} → Moves s n r → here r ≡ cursor n (s .script .names) (countsOf (s .counts))
 here-moved m = ap here (m .is)
+
+-- where the walk is, once something is written and it moved on
+pub here-behind : (s : Walk) {s₁ s₂ r : Walk} {n : ℕ} {x : Wrote} → here s₁ ≡ here s → Writes s₁ x s₂ → Moves s₂ n r → cursor n (s .script .names) (countsOf (s .counts)) ≡ here r
+here-behind s {n = n} c wr mv = sym (here-moved mv ∙ ap (λ (y : Walk). cursor n (y .script .names) (countsOf (y .counts))) (wr .is) ∙ ap (λ (y : Cur). cursor n (y .names) (y .counts)) c)
 
 pub here-wrote : {s : Walk} {v : Wrote} {r : Walk} → Writes s v r → here r ≡ here s
 here-wrote m = ap here (m .is)

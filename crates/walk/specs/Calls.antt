@@ -8,13 +8,12 @@ use lib.ListN.{length, getD}
 use borrow.Rule.Slice.PartMut.{putMid}
 use Rattle.penne.specs.Tree.{Spot, Ident, Poison, Maybe, ok, err, Ty, plain, array, arrayWithNamedLength, arraylike, struct, word, unresolved, nameless, pointer, view}
 use Rattle.penne.specs.Read.{ident}
-use Rattle.penne.specs.State.{ret}
 use Rattle.penne.specs.Reader.{Counts, Cur, got, Reader}
 use Rattle.penne.specs.Find.{firstNamed}
 use Rattle.penne.specs.Write.{poisonB}
 use Rattle.penne.specs.Containers.{Containment, cyclical, foundContainer1, foundContainer}
 use Rattle.penne.specs.Scopes.{Analyzer, Pass, withContainment, variables, useAs, useConstant, useVariable, declareVariable}
-use Rattle.penne.specs.Variables.{analyzeType, foundMaybe, analyzeWellfoundedness}
+use Rattle.penne.specs.Variables.{analyzeType}
 use Rattle.fields.specs.declared.counts.Counts as K
 use Rattle.fields.specs.declared.field.Identifier.{Identifier}
 use Rattle.fields.specs.Answers.{cursor, identOf, poisonNames, poisonPlaces}
@@ -40,8 +39,6 @@ use Rattle.walk.specs.declared.names.Named.{Named}
 use Rattle.walk.specs.declared.names.Place.{Place}
 use Rattle.walk.specs.declared.names.Place.the-variants as P
 use Rattle.walk.specs.declared.edges.Holder.{Holder}
-use Rattle.walk.specs.declared.edges.Holding.{Holding}
-use Rattle.walk.specs.declared.edges.Holding.the-variants as H
 use Rattle.walk.specs.declared.edges.Edge.{Edge}
 use Rattle.walk.specs.declared.edges.Edge.the-variants as E
 use Rattle.walk.specs.Walking.{Lists, here, Lower, scopesIn, containersIn, functionsIn, Tables, Ground, Good, Is, silently, faultB, Uses, UsesListed, Declares}
@@ -193,21 +190,6 @@ pub record FoundIn (t : List ℕ) (m : Reader (Ty Spot)) (k : Script) (h : Holde
   pub does : {n : W.Tables} {e : K.Counts} {a : Analyzer Spot} → Tables n k e w a → h .row < k .containers → {o : Option (Ident Spot)} → Member h o → (c : Ident Spot) → (at (a .containment .containers) (h .row)) .identifier ≡ c
       → (q : Counts) (d : Cur) (x x′ : Ty Spot) (b : Analyzer Spot) → m t (cursor from (k .names) q) ≡ got x d → analyzeType x b ≡ (ok x′, a)
       → Tables n k e w′ (withContainment a (foundContainer c o x′ (a .containment) .1)) × Lower w w′ × Edged x′ r (foundContainer c o x′ (a .containment) .0)
-
--- the member i as it was declared: it has its name, or was refused
-pub data Stays (i : Ident Spot) : (named : Bool) → Maybe Spot (Ident Spot) → Type 0 where
-  stays : Stays i true (ok i)
-  goes : {z : Poison Spot} → Stays i false (err z)
-
--- the edges of the structure c that a holding stands for, by its member i of type t
-unfoldable pub heldBy : Holding → (c i : Ident Spot) → Maybe Spot (Ty Spot) → Pass Spot (Maybe Spot (Ty Spot))
-heldBy (H.By h) c i t = foundMaybe c (some i) t
-heldBy H.Nobody c i t = ret t
-
--- member_holder: it holds what analyze_wellfoundedness hands over
-pub record Decides (named : Bool) (row place : ℕ) (r : Holding) : Type 0 where
-  pub holder : (h : Holder) → r ≡ H.By h → h ≡ record { row = row; «is_member» = true; member = place }
-  pub edges : (c i : Ident Spot) (m : Maybe Spot (Ident Spot)) → Stays i named m → (t : Maybe Spot (Ty Spot)) → heldBy r c i t ≡ analyzeWellfoundedness c m t
 
 -- declare_variable (kind 4), declare_parameter (5), declare_member (6)
 pub record DeclaresBy (kind : ℕ) (s : Walk) (i : Identifier) (from : ℕ) (w : List ℕ) (r : Named) (w′ : List ℕ) : Type 0 where

@@ -11,7 +11,7 @@ use Rattle.penne.specs.Tree.{Spot, Ident, Poison, Maybe, ok, err}
 use Rattle.penne.specs.Write.{numB, poisonB}
 use Rattle.penne.specs.Pruning.{offsets, fate, standing}
 use Rattle.penne.specs.Containers.{Container, constants}
-use Rattle.penne.specs.Scopes.{Analyzer, Pass, withStack, nextId}
+use Rattle.penne.specs.Scopes.{Analyzer, Pass, withStack, newScope, nextId}
 use Rattle.penne.specs.Scopes as Defs
 use Rattle.penne.specs.Variables.{isMain, inConstexprOf}
 use Rattle.penne.specs.Scoper.{words}
@@ -25,7 +25,7 @@ use Rattle.scopes.specs.Table.{Nth}
 use Rattle.scopes.specs.Mirror.{Mirrors}
 use Rattle.containers.specs.Table.{at, idAt, Holds}
 use Rattle.containers.specs.Functions.{HoldsFunctions}
-use Rattle.label_references.specs.Table as L
+use Rattle.scopes.specs.Labels as L
 use Rattle.walk.specs.declared.state.Script.{Script}
 use Rattle.walk.specs.declared.state.Tables as W
 use Rattle.walk.specs.declared.state.Walk.{Walk}
@@ -261,7 +261,7 @@ pub record Declares (p : Ident Spot → Pass Spot (Maybe Spot (Ident Spot))) (s 
 abbrev pub opening : Ground → Ground
 opening a = record {
   out = a .out;
-  st = withStack (a .st) (record { constants = a .st .variableStack .constants; locals = a .st .variableStack .locals; layer = length (a .st .variableStack .locals) });
+  st = newScope (a .st);
   rest = a .rest;
 }
 
@@ -321,10 +321,6 @@ labelFault i before = record { kind = 1; name = i .name; other = 0; place = befo
 -- an identifier of the code's
 abbrev pub madeB : Identifier → List ℕ
 madeB i = identifierB (i .name) (i .place) (i .id) (i .authority)
-
--- its id and authority are overwritten
-abbrev pub resolvedTo : Identifier → (id authority : ℕ) → Identifier
-resolvedTo i id authority = record { name = i .name; place = i .place; id = id; authority = authority }
 
 -- a kind or tag, then the poison that came in
 abbrev pub sayPoison : (kind : ℕ) → Poison Spot → Ground → Ground

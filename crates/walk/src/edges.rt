@@ -17,36 +17,15 @@ use memory::layout::CONTAINERS;
 use memory::layout::CONTAINERS_END;
 use memory::layout::WORDS;
 use nodes::value_type::value_type;
-ghost use Prim.Native.Nat.{ℕ};
 ghost use mathlib.Core.Bool.{Bool};
 ghost use Rattle.penne.specs.Read.{readTy};
-ghost use Rattle.walk.specs.Calls.{FindsIn, ContainerAt, EdgeTo, Cyclical, ConstantIn, FoundNamed, FoundLength, FoundIn, Decides};
+ghost use Rattle.walk.specs.Calls.{FindsIn, ContainerAt, EdgeTo, Cyclical, ConstantIn, FoundNamed, FoundLength, FoundIn};
 
 // Who contains: a constant or structure by its row; in a structure, the place of its member.
 pub struct Holder {
     pub row: usize,
     pub is_member: bool,
     pub member: u32,
-}
-
-// Who contains what a member names: the structure by that member, or nobody.
-pub enum Holding {
-    By(Holder),
-    Nobody,
-}
-
-// analyze_wellfoundedness, by the member's name as declared: one whose name was refused adds no edge.
-pub fn member_holder(named: bool, row: usize, place: u32) -> Holding
-    ensures { λ r. ⌜ Decides named row place r ⌝ }
-{
-    if !named {
-        return Holding::Nobody;
-    }
-    Holding::By(Holder {
-        row: row,
-        is_member: true,
-        member: place,
-    })
 }
 
 // What becomes of a containee.

@@ -10,24 +10,11 @@ use fields::field::Identifier;
 use fields::number::Read;
 use fields::poison::poison;
 ghost use Prim.Native.Nat.{ℕ};
-ghost use mathlib.Core.Path.{_≡_};
 ghost use mathlib.Core.List.{List, _++_};
 ghost use Rattle.penne.specs.Read.{readPoison};
 ghost use Rattle.penne.specs.Write.{numB};
 ghost use Rattle.answer.specs.Out.{Put};
-ghost use Rattle.walk.specs.Walking.{madeB, faultB, sayPoison, resolvedTo, Walks};
-
-// The identifier made anew: its id and authority are overwritten, name and place stay.
-pub fn resolved(i: Identifier, id: u32, authority: u32) -> Identifier
-    ensures { λ r. ⌜ r ≡ resolvedTo i id authority ⌝ }
-{
-    Identifier {
-        name: i.name,
-        place: i.place,
-        id: id,
-        authority: authority,
-    }
-}
+ghost use Rattle.walk.specs.Walking.{madeB, faultB, sayPoison, Walks};
 
 pub fn write_identifier(answer: &mut [u8], w: Wrote, i: Identifier) -> Wrote
     ensures { λ r. ⌜ Put w (madeB i) (now (answer .entry)) r (now (answer .exit)) ⌝ }

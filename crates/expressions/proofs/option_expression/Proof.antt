@@ -6,8 +6,8 @@ use mathlib.Core.Path.{refl, _∙_}
 use mathlib.Core.Option.{none, some}
 use Rattle.walk.proofs.Leading.{walks, leads-call, leads-end}
 use Rattle.walk.proofs.Choosing.{leads-unoption, leads-none, leads-some}
-use Rattle.expressions.proofs.Onward.{on, leads-on}
-use Rattle.expressions.proofs.Names.{some-is, none-is}
+use Rattle.expression_parts.proofs.Onward.{on, leads-on}
+use Rattle.expression_parts.proofs.Names.{some-is, none-is}
 use Rattle.expressions.proofs.option_expression.Statement.{statement}
 use Rattle.expressions.proofs.option_expression.Tie as tie
 

@@ -7,11 +7,11 @@ use mathlib.Core.Bool.{false}
 use Rattle.penne.specs.Read.{readSizeOf}
 use Rattle.penne.specs.Tree.{sizeOf}
 use Rattle.fields.proofs.Chain.{ends-place}
-use Rattle.walk.proofs.Leading.{walks, leads-skip, leads-unskip, leads-tried, leads-end}
+use Rattle.walk.proofs.Leading.{walks, leads-at, leads-skip, leads-unskip, leads-tried, leads-end}
 use Rattle.walk.proofs.Writing.{here-wrote}
 use Rattle.walk.proofs.Copying.{spelled-place}
-use Rattle.types.proofs.Trying.{leads-at, fine-is, bad-is}
-use Rattle.expressions.proofs.Onward.{on, leads-on}
+use Rattle.types.proofs.Trying.{fine-is, bad-is}
+use Rattle.expression_parts.proofs.Onward.{on, leads-on}
 use Rattle.expressions.proofs.Casts.{type-instead, size-of-is, size-of-bad}
 use Rattle.expressions.proofs.size_of.Statement.{statement}
 use Rattle.expressions.proofs.size_of.Tie as tie

@@ -8,15 +8,14 @@ use Prim.Native.Nat.{ℕ}
 use Rattle.penne.specs.Read.{toNodes, readArrayLiteral}
 use Rattle.penne.specs.Tree.{arrayLiteral}
 use Rattle.fields.proofs.Chain.{ends-place}
-use Rattle.walk.proofs.Leading.{walks, leads-skip, leads-unskip, leads-call, leads-end}
+use Rattle.walk.proofs.Leading.{walks, leads-at, leads-skip, leads-unskip, leads-call, leads-end}
 use Rattle.walk.proofs.Copying.{spells-join, spelled-place}
 use Rattle.walk.proofs.Carrying.{spelled-carried}
-use Rattle.types.proofs.Trying.{leads-at}
-use Rattle.expressions.proofs.Onward.{on, leads-on}
-use Rattle.expressions.proofs.Arrays.{elements-closed, array-literal-is}
+use Rattle.expression_parts.proofs.Onward.{on, leads-on}
+use Rattle.expression_parts.proofs.Arrays.{elements-closed, array-literal-is}
 use Rattle.expressions.proofs.+array_literal+binary+bit_cast+deref+element+expression+expression_of+expressions+function_call+item+items+length_of_array+parenthesized+reference+step+steps+structural+type_cast+unary.Lts-array_literal as lts
 use Rattle.expressions.proofs.+array_literal+binary+bit_cast+deref+element+expression+expression_of+expressions+function_call+item+items+length_of_array+parenthesized+reference+step+steps+structural+type_cast+unary.Proof.Common.{array-literal-at, expressions-below}
-use Rattle.expressions.proofs.array_id.Reads as array-id-reads
+use Rattle.expression_parts.proofs.array_id.Reads as array-id-reads
 use Rattle.expressions.proofs.array_literal.Reads as array-literal
 use Rattle.nodes.proofs.value_type.carried.Reads as carried-reads
 use Rattle.walk.proofs.names.closed.Reads as closed-reads

@@ -9,8 +9,8 @@ use Rattle.penne.specs.Read.{readBinary}
 use Rattle.penne.specs.Tree.{binary}
 use Rattle.walk.proofs.Leading.{walks, leads-operator, leads-unoperator, leads-call, leads-end}
 use Rattle.walk.proofs.Copying.{spelled-operator}
-use Rattle.expressions.proofs.Onward.{on, leads-on}
-use Rattle.expressions.proofs.Arms.{binary-is}
+use Rattle.expression_parts.proofs.Onward.{on, leads-on}
+use Rattle.expression_parts.proofs.Arms.{binary-is}
 use Rattle.expressions.proofs.+array_literal+binary+bit_cast+deref+element+expression+expression_of+expressions+function_call+item+items+length_of_array+parenthesized+reference+step+steps+structural+type_cast+unary.Lts-binary as lts
 use Rattle.expressions.proofs.+array_literal+binary+bit_cast+deref+element+expression+expression_of+expressions+function_call+item+items+length_of_array+parenthesized+reference+step+steps+structural+type_cast+unary.Proof.Common.{binary-at, expression-below}
 use Rattle.expressions.proofs.binary.Reads as binary

@@ -10,8 +10,8 @@ use Rattle.penne.specs.Tree.{bitCast}
 use Rattle.walk.proofs.Leading.{walks, leads-skip, leads-unskip, leads-places, leads-unplaces, leads-call, leads-end}
 use Rattle.walk.proofs.Copying.{spells-join, spelled-places}
 use Rattle.walk.proofs.Carrying.{spelled-carried}
-use Rattle.expressions.proofs.Onward.{on, leads-on}
-use Rattle.expressions.proofs.Arms.{bit-cast-is}
+use Rattle.expression_parts.proofs.Onward.{on, leads-on}
+use Rattle.expression_parts.proofs.Arms.{bit-cast-is}
 use Rattle.expressions.proofs.+array_literal+binary+bit_cast+deref+element+expression+expression_of+expressions+function_call+item+items+length_of_array+parenthesized+reference+step+steps+structural+type_cast+unary.Lts-bit_cast as lts
 use Rattle.expressions.proofs.+array_literal+binary+bit_cast+deref+element+expression+expression_of+expressions+function_call+item+items+length_of_array+parenthesized+reference+step+steps+structural+type_cast+unary.Proof.Common.{bit-cast-at, expression-below}
 use Rattle.expressions.proofs.bit_cast.Reads as bit-cast

@@ -9,8 +9,8 @@ use Rattle.penne.specs.Read.{readDeref}
 use Rattle.penne.specs.Tree.{deref}
 use Rattle.walk.proofs.Leading.{walks, leads-skip, leads-unskip, leads-call, leads-end}
 use Rattle.walk.proofs.Carrying.{spelled-carried}
-use Rattle.expressions.proofs.Onward.{on, leads-on}
-use Rattle.expressions.proofs.Arms.{deref-is}
+use Rattle.expression_parts.proofs.Onward.{on, leads-on}
+use Rattle.expression_parts.proofs.Arms.{deref-is}
 use Rattle.expressions.proofs.+array_literal+binary+bit_cast+deref+element+expression+expression_of+expressions+function_call+item+items+length_of_array+parenthesized+reference+step+steps+structural+type_cast+unary.Lts-deref as lts
 use Rattle.expressions.proofs.+array_literal+binary+bit_cast+deref+element+expression+expression_of+expressions+function_call+item+items+length_of_array+parenthesized+reference+step+steps+structural+type_cast+unary.Proof.Common.{deref-at, reference-below}
 use Rattle.nodes.proofs.value_type.carried.Reads as carried-reads

@@ -8,7 +8,7 @@ use Rattle.fields.proofs.Chain.{reads}
 use Rattle.nodes.proofs.Nodes.{expr-node}
 use Rattle.walk.proofs.Leading.{walks, node-deep, node-unread, node-in}
 use Rattle.walk.proofs.Writing.{moved}
-use Rattle.expressions.proofs.Onward.{leads-moved}
+use Rattle.expression_parts.proofs.Onward.{leads-moved}
 use Rattle.expressions.proofs.+array_literal+binary+bit_cast+deref+element+expression+expression_of+expressions+function_call+item+items+length_of_array+parenthesized+reference+step+steps+structural+type_cast+unary.Lts-expression as lts
 use Rattle.expressions.proofs.+array_literal+binary+bit_cast+deref+element+expression+expression_of+expressions+function_call+item+items+length_of_array+parenthesized+reference+step+steps+structural+type_cast+unary.Proof.Common.{expression-at, expression-of-below}
 use Rattle.fields.proofs.number.below.Reads as below-reads

@@ -6,23 +6,23 @@ use native.Mathlib.Omega.{arith}
 use Prim.Native.Nat.{ℕ}
 use Rattle.penne.specs.Read.{exprKinds, exprOf}
 use Rattle.nodes.proofs.Nodes.{none-below-15}
-use Rattle.expressions.specs.Expressing.{is-signed, is-bits}
-use Rattle.expressions.proofs.ByKind.{walk-arm, walk-poison}
+use Rattle.expression_parts.specs.Expressing.{is-signed, is-bits}
+use Rattle.expression_parts.proofs.ByKind.{walk-arm, walk-poison}
 use Rattle.expressions.proofs.+array_literal+binary+bit_cast+deref+element+expression+expression_of+expressions+function_call+item+items+length_of_array+parenthesized+reference+step+steps+structural+type_cast+unary.Lts-expression_of as lts
 use Rattle.expressions.proofs.+array_literal+binary+bit_cast+deref+element+expression+expression_of+expressions+function_call+item+items+length_of_array+parenthesized+reference+step+steps+structural+type_cast+unary.Proof.Common.{array-literal-below, binary-below, bit-cast-below, deref-below, expression-of-at, function-call-below, length-of-array-below, parenthesized-below, structural-below, type-cast-below, unary-below}
 use Rattle.expressions.proofs.array_literal.Reads as array-literal
 use Rattle.expressions.proofs.binary.Reads as binary
 use Rattle.expressions.proofs.bit_cast.Reads as bit-cast
-use Rattle.expressions.proofs.boolean.Reads as boolean-reads
+use Rattle.expression_parts.proofs.boolean.Reads as boolean-reads
 use Rattle.walk.proofs.items.copy_poison.Reads as copy-poison-reads
 use Rattle.expressions.proofs.deref.Reads as deref
 use Rattle.expressions.proofs.expression_of.Reads as expression-of
 use Rattle.expressions.proofs.function_call.Reads as function-call
-use Rattle.expressions.proofs.integer.Reads as integer-reads
+use Rattle.expression_parts.proofs.integer.Reads as integer-reads
 use Rattle.expressions.proofs.length_of_array.Reads as length-of-array
 use Rattle.expressions.proofs.parenthesized.Reads as parenthesized
 use Rattle.expressions.proofs.size_of.Reads as size-of-reads
-use Rattle.expressions.proofs.string.Reads as string-reads
+use Rattle.expression_parts.proofs.string.Reads as string-reads
 use Rattle.expressions.proofs.structural.Reads as structural
 use Rattle.expressions.proofs.type_cast.Reads as type-cast
 use Rattle.expressions.proofs.unary.Reads as unary

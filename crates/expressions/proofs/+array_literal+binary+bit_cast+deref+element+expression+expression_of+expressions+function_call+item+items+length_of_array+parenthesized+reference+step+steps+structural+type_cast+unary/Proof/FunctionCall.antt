@@ -8,16 +8,15 @@ use Prim.Native.Nat.{ℕ}
 use Rattle.penne.specs.Read.{toNodes, readFunctionCall}
 use Rattle.penne.specs.Tree.{functionCall}
 use Rattle.fields.proofs.Chain.{reads}
-use Rattle.walk.proofs.Leading.{walks, leads-read, leads-unread, leads-identified, leads-unidentified, leads-skip, leads-unskip, leads-call, leads-end}
+use Rattle.walk.proofs.Leading.{walks, leads-at, leads-read, leads-unread, leads-identified, leads-unidentified, leads-skip, leads-unskip, leads-call, leads-end}
 use Rattle.walk.proofs.Writing.{moved, here-wrote}
 use Rattle.walk.proofs.Copying.{spells-join}
 use Rattle.walk.proofs.Carrying.{spelled-carried}
-use Rattle.types.proofs.Trying.{leads-at}
-use Rattle.expressions.proofs.Onward.{leads-moved}
-use Rattle.expressions.proofs.Names.{number-spelled, call-is, call-bad, call-instead, headed-is, here-headed}
+use Rattle.expression_parts.proofs.Onward.{leads-moved}
+use Rattle.expression_parts.proofs.Names.{number-spelled, call-is, call-bad, call-instead, headed-is, here-headed}
 use Rattle.expressions.proofs.+array_literal+binary+bit_cast+deref+element+expression+expression_of+expressions+function_call+item+items+length_of_array+parenthesized+reference+step+steps+structural+type_cast+unary.Lts-function_call as lts
 use Rattle.expressions.proofs.+array_literal+binary+bit_cast+deref+element+expression+expression_of+expressions+function_call+item+items+length_of_array+parenthesized+reference+step+steps+structural+type_cast+unary.Proof.Common.{expressions-below, function-call-at}
-use Rattle.expressions.proofs.call_head.Reads as call-head-reads
+use Rattle.expression_parts.proofs.call_head.Reads as call-head-reads
 use Rattle.nodes.proofs.value_type.carried.Reads as carried-reads
 use Rattle.expressions.proofs.expressions.Reads as expressions
 use Rattle.expressions.proofs.function_call.Reads as function-call

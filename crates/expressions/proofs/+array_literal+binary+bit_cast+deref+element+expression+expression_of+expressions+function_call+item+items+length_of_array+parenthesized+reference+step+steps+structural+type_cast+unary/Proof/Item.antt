@@ -11,8 +11,8 @@ use Rattle.fields.proofs.Chain.{reads, ends-number}
 use Rattle.walk.proofs.Leading.{walks, leads-skip, leads-unskip, leads-call, leads-end}
 use Rattle.walk.proofs.Copying.{spells-join, spelled-num, spelled-ident}
 use Rattle.walk.proofs.Carrying.{spelled-maybe}
-use Rattle.expressions.proofs.Onward.{on, leads-on}
-use Rattle.expressions.proofs.Arms.{item-is}
+use Rattle.expression_parts.proofs.Onward.{on, leads-on}
+use Rattle.expression_parts.proofs.Arms.{item-is}
 use Rattle.expressions.proofs.+array_literal+binary+bit_cast+deref+element+expression+expression_of+expressions+function_call+item+items+length_of_array+parenthesized+reference+step+steps+structural+type_cast+unary.Lts-item as lts
 use Rattle.expressions.proofs.+array_literal+binary+bit_cast+deref+element+expression+expression_of+expressions+function_call+item+items+length_of_array+parenthesized+reference+step+steps+structural+type_cast+unary.Proof.Common.{expression-below, item-at}
 use Rattle.expressions.proofs.expression.Reads as expression

@@ -11,12 +11,12 @@ use Rattle.fields.proofs.Chain.{reads}
 use Rattle.nodes.proofs.Nodes.{ref-node}
 use Rattle.walk.proofs.Leading.{walks, leads-places, leads-unplaces, leads-call, leads-end, node-deep, node-unread, node-in}
 use Rattle.walk.proofs.Copying.{spells-join, spelled-places}
-use Rattle.expressions.proofs.Onward.{on, leads-on}
-use Rattle.expressions.proofs.Arms.{reference-is}
-use Rattle.expressions.proofs.Names.{below-spelled}
+use Rattle.expression_parts.proofs.Onward.{on, leads-on}
+use Rattle.expression_parts.proofs.Arms.{reference-is}
+use Rattle.expression_parts.proofs.Names.{below-spelled}
 use Rattle.expressions.proofs.+array_literal+binary+bit_cast+deref+element+expression+expression_of+expressions+function_call+item+items+length_of_array+parenthesized+reference+step+steps+structural+type_cast+unary.Lts-reference as lts
 use Rattle.expressions.proofs.+array_literal+binary+bit_cast+deref+element+expression+expression_of+expressions+function_call+item+items+length_of_array+parenthesized+reference+step+steps+structural+type_cast+unary.Proof.Common.{reference-at, steps-below}
-use Rattle.expressions.proofs.base.Reads as base-reads
+use Rattle.expression_parts.proofs.base.Reads as base-reads
 use Rattle.fields.proofs.number.below.Reads as below-reads
 use Rattle.walk.proofs.state.Walk.moved.Reads as moved-reads
 use Rattle.expressions.proofs.reference.Reads as reference

@@ -10,13 +10,13 @@ use Rattle.fields.proofs.Chain.{reads}
 use Rattle.nodes.proofs.Nodes.{step-node}
 use Rattle.walk.proofs.Leading.{walks, node-deep, node-unread, node-in}
 use Rattle.walk.proofs.Writing.{moved}
-use Rattle.expressions.proofs.Onward.{leads-moved}
-use Rattle.expressions.proofs.ByKind.{walk-element, walk-member}
+use Rattle.expression_parts.proofs.Onward.{leads-moved}
+use Rattle.expression_parts.proofs.ByKind.{walk-element, walk-member}
 use Rattle.expressions.proofs.+array_literal+binary+bit_cast+deref+element+expression+expression_of+expressions+function_call+item+items+length_of_array+parenthesized+reference+step+steps+structural+type_cast+unary.Lts-step as lts
 use Rattle.expressions.proofs.+array_literal+binary+bit_cast+deref+element+expression+expression_of+expressions+function_call+item+items+length_of_array+parenthesized+reference+step+steps+structural+type_cast+unary.Proof.Common.{element-below, step-at}
 use Rattle.fields.proofs.number.below.Reads as below-reads
 use Rattle.expressions.proofs.element.Reads as element
-use Rattle.expressions.proofs.member.Reads as member-reads
+use Rattle.expression_parts.proofs.member.Reads as member-reads
 use Rattle.walk.proofs.state.Walk.moved.Reads as moved-reads
 use Rattle.expressions.proofs.step.Reads as step
 

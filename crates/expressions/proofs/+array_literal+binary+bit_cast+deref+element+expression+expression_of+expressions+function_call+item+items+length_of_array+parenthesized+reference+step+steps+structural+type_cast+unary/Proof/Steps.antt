@@ -12,8 +12,8 @@ use Rattle.penne.specs.Tree.{step}
 use Rattle.fields.proofs.Chain.{reads}
 use Rattle.walk.specs.Walking.{onward}
 use Rattle.walk.proofs.Leading.{walks, leads-read, leads-unread, Going, going-start, going-more, going-done}
-use Rattle.expressions.specs.Expressing.{nodes}
-use Rattle.expressions.proofs.Onward.{on, leads-on, nodes-listed, leads-list}
+use Rattle.expression_parts.specs.Expressing.{nodes}
+use Rattle.expression_parts.proofs.Onward.{on, leads-on, nodes-listed, leads-list}
 use Rattle.expressions.proofs.+array_literal+binary+bit_cast+deref+element+expression+expression_of+expressions+function_call+item+items+length_of_array+parenthesized+reference+step+steps+structural+type_cast+unary.Lts-steps as lts
 use Rattle.expressions.proofs.+array_literal+binary+bit_cast+deref+element+expression+expression_of+expressions+function_call+item+items+length_of_array+parenthesized+reference+step+steps+structural+type_cast+unary.Proof.Common.{step-below, steps-at}
 use Rattle.walk.proofs.state.Walk.moved.Reads as moved-reads

@@ -8,17 +8,17 @@ use Prim.Native.Nat.{ℕ}
 use mathlib.Core.Bool.{false}
 use Rattle.penne.specs.Read.{readTypeCast}
 use Rattle.penne.specs.Tree.{typeCast}
-use Rattle.walk.proofs.Leading.{walks, leads-places, leads-unplaces, leads-call, leads-tried, leads-end}
+use Rattle.walk.proofs.Leading.{walks, leads-at, leads-places, leads-unplaces, leads-call, leads-tried, leads-end}
 use Rattle.walk.proofs.Writing.{here-wrote}
 use Rattle.walk.proofs.Copying.{spelled-places}
-use Rattle.types.proofs.Trying.{leads-at, fine-is, bad-is}
-use Rattle.expressions.proofs.Onward.{on, leads-on}
+use Rattle.types.proofs.Trying.{fine-is, bad-is}
+use Rattle.expression_parts.proofs.Onward.{on, leads-on}
 use Rattle.expressions.proofs.Casts.{type-rewound, type-cast-is, type-cast-bad}
 use Rattle.expressions.proofs.+array_literal+binary+bit_cast+deref+element+expression+expression_of+expressions+function_call+item+items+length_of_array+parenthesized+reference+step+steps+structural+type_cast+unary.Lts-type_cast as lts
 use Rattle.expressions.proofs.+array_literal+binary+bit_cast+deref+element+expression+expression_of+expressions+function_call+item+items+length_of_array+parenthesized+reference+step+steps+structural+type_cast+unary.Proof.Common.{expression-below, type-cast-at}
 use Rattle.expressions.proofs.expression.Reads as expression
 use Rattle.walk.proofs.state.Walk.moved.Reads as moved-reads
-use Rattle.expressions.proofs.past_operand.Reads as past-operand-reads
+use Rattle.expression_parts.proofs.past_operand.Reads as past-operand-reads
 use Rattle.answer.proofs.copy.then_head.Reads as then-head-reads
 use Rattle.fields.proofs.field.two_places.Reads as two-places-reads
 use Rattle.expressions.proofs.type_cast.Reads as type-cast

@@ -14,8 +14,8 @@ use Rattle.statements.proofs.block.Reads as block
 use Rattle.statements.proofs.branches.Reads as branches
 use Rattle.walk.proofs.items.copy_poison.Reads as copy-poison-reads
 use Rattle.statements.proofs.declaration.Reads as declaration-reads
-use Rattle.statements.proofs.goto.Reads as goto-reads
-use Rattle.statements.proofs.label.Reads as label-reads
+use Rattle.statement_parts.proofs.goto.Reads as goto-reads
+use Rattle.statement_parts.proofs.label.Reads as label-reads
 use Rattle.statements.proofs.loop_back.Reads as loop-back-reads
 use Rattle.statements.proofs.method_call.Reads as method-call-reads
 use Rattle.statements.proofs.statement_of.Reads as statement-of

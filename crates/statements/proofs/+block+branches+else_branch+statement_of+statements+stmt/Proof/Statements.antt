@@ -8,8 +8,8 @@ use Prim.Native.Nat.{ℕ}
 use Rattle.penne.specs.Read.{readStmt, toStms}
 use Rattle.penne.specs.Write.{stmB}
 use Rattle.walk.proofs.Leading.{Going, going-start, going-more, going-done}
-use Rattle.statements.specs.Stating.{stmWalk}
-use Rattle.statements.proofs.Fit.{stms-listed}
+use Rattle.statement_parts.specs.Stating.{stmWalk}
+use Rattle.statement_parts.proofs.Fit.{stms-listed}
 use Rattle.statements.proofs.Nesting.{stms-not, stms}
 use Rattle.statements.proofs.+block+branches+else_branch+statement_of+statements+stmt.Lts-statements as lts
 use Rattle.statements.proofs.+block+branches+else_branch+statement_of+statements+stmt.Proof.Common.{statements-at, stmt-below}

@@ -4,9 +4,8 @@ use Prim.Native.Nat.{ℕ}
 use borrow.Author.Needs.{needs}
 use native.Mathlib.Omega.{arith}
 use Prim.Native.Nat.{ℕ}
-use Rattle.walk.proofs.Leading.{tries}
+use Rattle.walk.proofs.Leading.{tries, leads-at}
 use Rattle.walk.proofs.Writing.{here-moved, moved}
-use Rattle.types.proofs.Trying.{leads-at}
 use Rattle.types.proofs.Arms.{type-unread, type-deep, type-in}
 use Rattle.types.specs.Typing.{walkOf, faultOf}
 use Rattle.types.proofs.+array+array_with_named_length+element_of+type_of+value_type.Lts-value_type as lts

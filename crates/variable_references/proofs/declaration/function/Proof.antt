@@ -4,7 +4,7 @@ use borrow.Author.Needs.{needs}
 use native.Mathlib.Omega.{arith}
 use mathlib.Core.Path.{_∙_}
 use mathlib.Core.Bool.{false}
-use Rattle.variable_references.proofs.Functions.{function-arm}
+use Rattle.declaration_parts.proofs.Functions.{function-arm}
 use Rattle.variable_references.proofs.declaration.function.Statement.{statement}
 use Rattle.variable_references.proofs.declaration.function.Tie as tie
 

@@ -2,7 +2,7 @@
 -- `variable_references::declaration/named_declaration` meets its contract. Assumes nothing.
 use borrow.Author.Needs.{needs}
 use native.Mathlib.Omega.{arith}
-use Rattle.variable_references.proofs.Dropping.{dropped}
+use Rattle.declaration_parts.proofs.Dropping.{dropped}
 use Rattle.variable_references.proofs.Titling.{first-kept}
 use Rattle.variable_references.proofs.declaration.named_declaration.Statement.{statement}
 use Rattle.variable_references.proofs.declaration.named_declaration.Tie as tie

@@ -2,10 +2,10 @@
 -- `variable_references::script/declarations` meets its contract. Assumes nothing.
 use borrow.Author.Needs.{needs}
 use native.Mathlib.Omega.{arith}
-use Rattle.variable_references.proofs.Starting.{decls-listed}
+use Rattle.declaration_parts.proofs.Starting.{decls-listed}
 use Rattle.walk.proofs.Leading.{Going, going-start, going-more, going-done}
 use Rattle.penne.specs.Read.{readDecl}
-use Rattle.variable_references.specs.Declaring.{declsWalk}
+use Rattle.declaration_parts.specs.Declaring.{declsWalk}
 use Rattle.variable_references.proofs.script.declarations.Statement.{statement}
 use Rattle.variable_references.proofs.script.declarations.Tie as tie
 

@@ -1,0 +1,14 @@
+pub mod Arms
+pub mod Dropping
+pub mod Fitting
+pub mod Rowing
+pub mod Constants
+pub mod Importing
+pub mod Flags
+pub mod Structures
+pub mod Functions
+pub mod Freeing
+pub mod Wording
+pub mod Wholly
+pub mod Depths
+pub mod Starting

@@ -1,0 +1,2 @@
+pub mod Declaring
+pub mod Heading

@@ -1,0 +1,4 @@
+pub mod MemberEdges
+pub mod Staying
+pub mod Entries
+pub mod Params

@@ -1,0 +1,4 @@
+pub mod Along
+pub mod Rowing
+pub mod Finding
+pub mod Visiting

@@ -1,0 +1,3 @@
+pub mod Outcomes
+pub mod Table
+pub mod Visit

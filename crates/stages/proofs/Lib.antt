@@ -1,0 +1,10 @@
+pub mod Bytes
+pub mod Parting
+pub mod Sizing
+pub mod Calling
+pub mod Predeclaring
+pub mod Deepening
+pub mod Saying
+pub mod Naming
+pub mod Seeking
+pub mod Earlier
