@@ -1,4 +1,4 @@
-# Refusals 3 to 10 at their edges, number and place by hand from document 01's words. tables.py writes them to crates/penne/proofs/Limits.antt.
+# Refusals 3 to 10 at their edges, number and place by hand from document 01's words. tables.py writes them to crates/vectors/proofs/Limits.antt.
 from trees import *
 
 NAMES = names('a')

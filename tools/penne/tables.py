@@ -1,4 +1,4 @@
-# Writes the tables of crates/penne/proofs anew: Run, Sheet, Limits, Rooms; and Vectors of crates/vectors/proofs. At the root of the repository:
+# Writes the tables anew: Run, Sheet of crates/penne/proofs; Vectors, Limits, Rooms of crates/vectors/proofs. At the root of the repository:
 #   python3 tools/penne/tables.py [ORACLE]
 # ORACLE is the oracle's program (the original Rust, run unchanged), oracle/target/release/oracle if none is given.
 # Fails, and writes nothing, where the Rust says something else than sheet.py and limits.py say by hand, or where the tables would not show all kinds.
@@ -60,6 +60,7 @@ def rooms_text():
     return out + '    []\n\nasks-same : map (λ r. readers (r .0) (r .1) (r .2)) asks ≡ map (λ r. r .3) asks\nunfolding runChecks asks\nasks-same = refl\n'
 
 vectors = '-- %d trees with the answers of the original Rust. Written by tools/penne/tables.py.\n' % len(rows) + tables(rows)
-for name, text in (('Run', run.text()), ('Sheet', sheet.text()), ('Limits', limits.text()), ('Rooms', rooms_text())):
+for name, text in (('Run', run.text()), ('Sheet', sheet.text())):
     with open(run.CRATE + 'proofs/%s.antt' % name, 'w') as f: f.write(text)
-with open('crates/vectors/proofs/Vectors.antt', 'w') as f: f.write(outside(vectors))
+for name, text in (('Vectors', vectors), ('Limits', limits.text()), ('Rooms', rooms_text())):
+    with open('crates/vectors/proofs/%s.antt' % name, 'w') as f: f.write(outside(text))

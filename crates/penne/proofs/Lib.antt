@@ -2,8 +2,6 @@ pub mod Reach
 pub mod Checks
 pub mod Run
 pub mod Sheet
-pub mod Limits
-pub mod Rooms
 pub mod Booleans
 pub mod Searching
 pub mod Skeleton

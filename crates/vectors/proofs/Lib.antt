@@ -1,1 +1,3 @@
 pub mod Vectors
+pub mod Limits
+pub mod Rooms
