@@ -38,7 +38,7 @@ use Rattle.walk.specs.declared.state.Walk.{Walk}
 use Rattle.walk.specs.declared.fault.Fault.{Fault}
 use Rattle.walk.specs.Walking.{here, Moves, Writes, Counted, Rest, Ground, Good, Marks, Stands, Is, say, Did, Leads, Walks, faultB, duplicateFault, madeB}
 use Rattle.walk.proofs.Leading.{walks, such-got, unend-go, leads-refused, leads-bind, leads-got, leads-counting, is-same}
-use Rattle.walk.proofs.Writing.{here-moved, here-counted, moved, wrote}
+use Rattle.walk.proofs.Writing.{here-moved, here-after, here-counted, moved, wrote}
 use Rattle.walk.proofs.Writing as W
 use Rattle.walk.proofs.Faults.{duplicate-bytes}
 use Rattle.stages.specs.declared.heads.Start.{Start}
@@ -84,7 +84,7 @@ good-decl d a z = (record { few = omega (arith, z .few, still-decl (a .rest .nam
 pub started-is : {t : List ℕ} {kind flags : ℕ} {h : Start} {i : Identifier} {s : Walk} {x y z v : Wrote} {o o₁ o₂ o₃ o₄ : List ℕ} {s₁ r : Walk} → Put (s .wrote) (numB kind) o x o₁ → Put x (numB flags) o₁ y o₂ → Put y (renumbered t (h .places) (h .from)) o₂ z o₃ → Put z (madeB i) o₃ v o₄
     → Writes s v s₁ → Moves s₁ (h .parts) r → Starts t kind flags h i s o r o₄
 started-is {h = h} p₁ p₂ p₃ p₄ wr mv = record {
-  cur = here-moved mv ∙ ap (λ (u : Walk). cursor (h .parts) (u .script .names) (countsOf (u .counts))) (wr .is);
+  cur = here-after wr mv;
   script = ap (λ (u : Walk). u .script) (mv .is) ∙ ap (λ (u : Walk). u .script) (wr .is);
   is = λ i. moved (wrote i (p₁ ▸ (p₂ ▸ (p₃ ▸ p₄))) wr) mv;
 }

@@ -17,7 +17,7 @@ use Rattle.answer.proofs.Chain.{_▸_}
 use Rattle.walk.specs.declared.state.Walk.{Walk}
 use Rattle.walk.specs.Walking.{here, Moves, Writes, Ground, say, Did, Leads, Walks}
 use Rattle.walk.proofs.Leading.{never, same-value, same-cur, bind-got, unend-go, walks, leads-bind, leads-place, leads-unplace, leads-got, is-same, leads-at}
-use Rattle.walk.proofs.Writing.{here-moved, moved, wrote}
+use Rattle.walk.proofs.Writing.{here-after, moved, wrote}
 use Rattle.expression_parts.proofs.ByKind.{bytes-is}
 
 import-is : (a : Ground) (xs ys bs : List ℕ) (p : Spot) → xs ++ ys ≡ bytesB bs → say ((numB 4 ++ xs) ++ (ys ++ numB (p .number))) a ≡ say (declB (import bs p)) a
@@ -58,7 +58,7 @@ module _ {t : List ℕ} (s : Walk) {m₁ : Read} (g₁ : Gives num t (s .at) m�
           → Walks t readImport (λ d a. say (declB d) a) s o l w r o₃ l w
       unfolding readImport
       imported {c = c} e₃ p₁ p₂ p₃ wr mv = walks λ h g i. leads-bind bytes _ λ bs d q.
-          let here-r = here-moved mv ∙ ap (λ (u : Walk). cursor c (u .script .names) (countsOf (u .counts))) (wr .is) in
+          let here-r = here-after wr mv in
           leads-at (text-end q) (leads-place _ g₃ e₃ (leads-got (import bs _) (record {
             cur = sym here-r;
             is = is-same (λ _. import-is g (renumbered t (s .at) a) (part t a b) bs _ (ap (λ (u : Cur). renumbered t (s .at) a ++ part t a (u .at)) (text-end q) ∙ bytes-is t (here s) (num-is e₁) q)) (moved (wrote i (p₁ ▸ (p₂ ▸ p₃)) wr) mv);

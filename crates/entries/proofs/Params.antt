@@ -32,7 +32,7 @@ use Rattle.walk.specs.Calls.{the-member}
 use Rattle.entries.specs.Entering.{Stays, stays, goes, heldBy, Decides}
 use Rattle.walk.proofs.Loops.{Kept, kept-start, kept-more}
 use Rattle.walk.proofs.Leading.{leads-bind, leads-read, leads-unread, leads-call, leads-end, leads-got, is-same, bind-is, leads-at}
-use Rattle.walk.proofs.Writing.{here-moved, moved, wrote}
+use Rattle.walk.proofs.Writing.{here-after, moved, wrote}
 use Rattle.types.specs.Typing.{analyzeContained, Contains}
 use Rattle.entries.specs.declared.Entry.{Entry}
 use Rattle.entries.specs.declared.Entry.the-variants as E
@@ -256,7 +256,7 @@ module _ {P : Ground → Type 0} (p : Param Spot → Pass Spot (Param Spot)) (m 
       → Under P t (listed m) (onward (inTurn p) (listB paramB)) s o l w r o′ l′ w′
   unfolding listed
   list-walked {n} {at} {s₂ = s₂} says e put wr mv k = record {
-    does = λ h a q i. leads-read _ (reads g) e (leads-at (here-moved mv ∙ ap (λ (z : Walk). cursor at (z .script .names) (countsOf (z .counts))) (wr .is)) (record {
+    does = λ h a q i. leads-read _ (reads g) e (leads-at (here-after wr mv) (record {
       to = λ xs d j.
           let z = k .does h (say (numB n) a) (λ y. says a (say (numB n) a) refl (q (record { few = y .few; fit = y .fit }))) (moved (wrote i put wr) mv) .to xs d j in
           record { cur = z .cur; is = is-same (λ _. list-is p n xs a (many-length m n t (here s₂) j)) (z .is) };

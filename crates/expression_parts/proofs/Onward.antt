@@ -17,7 +17,7 @@ use Rattle.answer.specs.Out.{Put}
 use Rattle.walk.specs.declared.state.Walk.{Walk}
 use Rattle.walk.specs.Walking.{Moves, Writes, here, Rest, Ground, Is, onward, say, Did, Leads, Input, Walks}
 use Rattle.walk.proofs.Leading.{is-same, Listed, leads-at}
-use Rattle.walk.proofs.Writing.{here-moved, moved, wrote}
+use Rattle.walk.proofs.Writing.{here-moved, here-after, moved, wrote}
 use Rattle.expression_parts.specs.Expressing.{nodes, nodesB, listWalk}
 
 -- grounds that differ in how their bytes are put together
@@ -34,7 +34,7 @@ module _ {A : Type 0} {t : List ℕ} {m : Reader A} {P : A → Cur → Type 0} w
   leads-moved e k = leads-at (here-moved e) k
 
   pub leads-on : {s : Walk} {v : Wrote} {r₁ : Walk} {n : ℕ} {r : Walk} → Writes s v r₁ → Moves r₁ n r → Leads m t (here r) P → Leads m t (cursor n (s .script .names) (countsOf (s .counts))) P
-  leads-on {n = n} e f k = leads-at (here-moved f ∙ ap (λ (x : Walk). cursor n (x .script .names) (countsOf (x .counts))) (e .is)) k
+  leads-on e f k = leads-at (here-after e f) k
 
 -- a reader by itself
 ret-go : {A : Type 0} (t : List ℕ) (q : Got A) → _≡_ {A = Got A} (elim q [ got y e ↦ ret y t e | refused i p ↦ refused i p ]) q

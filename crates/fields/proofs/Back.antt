@@ -1,20 +1,15 @@
 -- Back from an answer: what was read on the way to it.
-use mathlib.Core.Path.{_≡_, refl, sym, ap, _∙_}
+use mathlib.Core.Path.{_≡_, sym, ap, _∙_}
 use mathlib.Core.List.{List, _∷_}
 use Prim.Native.Nat.{ℕ, zero, suc}
 use lib.ListN.{length}
 use Rattle.penne.specs.Reader.{Cur, Got, got, refused, Reader, _>>=_, ret, many}
-use Rattle.penne.proofs.Leading.{same-value, same-cur, never as got-never}
+use Rattle.penne.proofs.Leading.{same-value, same-cur, bind-got}
 use Rattle.fields.specs.Answers.{forget}
-use Rattle.fields.proofs.Chain.{after, here, never}
-
-bind-go : {A B X : Type 0} (f : A → Reader B) (s : List ℕ) (q : Got A) {b : B} {d : Cur} → after f s q ≡ got b d → ((a : A) (c : Cur) → q ≡ got a c → f a s c ≡ got b d → X) → X
-bind-go f s (got a c) e next = next a c refl e
-bind-go f s (refused i p) e next = got-never e
+use Rattle.fields.proofs.Chain.{here, never}
 
 pub bind-case : {A B X : Type 0} (m : Reader A) (f : A → Reader B) (s : List ℕ) (c : Cur) {b : B} {d : Cur} → (m >>= f) s c ≡ got b d → ((a : A) (c′ : Cur) → m s c ≡ got a c′ → f a s c′ ≡ got b d → X) → X
-unfolding _>>=_
-bind-case m f s c e next = bind-go f s (m s c) e next
+bind-case m f s c e next = let b = bind-got m f s c e in next (b .0) (b .1) (b .2) (b .3)
 
 pub many-case : {A X : Type 0} (m : Reader A) (n : ℕ) (s : List ℕ) (c : Cur) {xs : List A} {d : Cur} → many m (suc n) s c ≡ got xs d → ((a : A) (c′ : Cur) (rest : List A) → m s c ≡ got a c′ → many m n s c′ ≡ got rest d → xs ≡ a ∷ rest → X) → X
 unfolding many ret

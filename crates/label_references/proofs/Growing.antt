@@ -13,7 +13,7 @@ use Rattle.labels.specs.Outcomes.{labelsIn, statementsIn, bodyOf, bodyLabels, l
 use Rattle.tree.specs.declared.script.Layout.{Layout}
 use Rattle.fields.specs.Answers.{cursor}
 use Rattle.tree.specs.Script.{LaidOut}
-use Rattle.label_references.proofs.Leading.{Leads, leads-none, leads-ret, leads-bind}
+use Rattle.label_references.proofs.Leading.{Leads, leads-none, leads-ret, leads-bind, leads-deep}
 use Rattle.label_references.proofs.Keeping.{Same, Keeps, keeps-ret, keeps-bind, keeps-such, keeps-num, keeps-below, keeps-place, keeps-ident, keeps-many, keeps-listed, keeps-either, keeps-poison, keeps-maybe, keeps-option, keeps-ty, keeps-read, keeps-bytes}
 use Rattle.label_references.proofs.Laying.{fits-statements}
 
@@ -130,18 +130,13 @@ grows-kind d g kIf = grows-keep keeps-place λ p. grows-keep keeps-num λ o. gro
 grows-kind d g kBlock = grows-keep keeps-place λ p. grows-bind (grows-listed g) λ ts. grows-ret _ (omega arith)
 grows-kind d g kBadStmt = grows-keep keeps-poison λ p. grows-ret _ (omega arith)
 
-keeps-head : Keeps stmtHead
+pub keeps-head : Keeps stmtHead
 unfolding stmtHead
 keeps-head = keeps-bind (keeps-below 9) λ n. keeps-ret _
 
--- too deep a statement is none
-pub deep-go : (p : ℕ) (q : Got StmtKind) {Q : Stm Spot stmt → Cur → Type 0} → Leads {A = Stm Spot stmt} (elim q [ got a next ↦ refused 7 p | refused i j ↦ refused i j ]) Q
-deep-go p (got a e) = leads-none _ refl
-deep-go p (refused i j) = leads-none _ refl
-
 pub grows-stmt : (d : ℕ) → Grows 0 (readStmt d) labelled
-unfolding readStmt tooDeep
-grows-stmt zero = record { at = λ s c d x. deep-go (d .at) (stmtHead s d) }
+unfolding readStmt
+grows-stmt zero = record { at = λ s c d x. leads-deep stmtHead s d }
 grows-stmt (suc d) = grows-counting stmtCounts keeps-head λ k. grows-kind d (grows-stmt d) k
 
 -- DECLARATIONS

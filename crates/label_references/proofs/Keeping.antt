@@ -12,7 +12,7 @@ use Rattle.penne.specs.Reader.{Counts, Cur, Got, got, refused, Reader, _>>=_, r
 use Rattle.penne.specs.Read.{place, name, ident, poisonFields, poisonOf, readPoison, either, maybe, option, TyKind, kPlain, kArray, kNamedLength, kArraylike, kStruct, kWord, kUnresolved, kNameless, kPointer, kView, tyKinds, tyOf, readTy, toNodes, Readers, itemOf, readBinary, readUnary, readBoolean, readInteger, readString, readArrayLiteral, readStructural, readParenthesized, readDeref, readBitCast, readTypeCast, readLengthOfArray, readSizeOf, readFunctionCall, ExprKind, kBinary, kUnary, kBoolean, kSigned, kBits, kString, kArrayLiteral, kStructural, kParenthesized, kDeref, kBitCast, kTypeCast, kLengthOfArray, kSizeOf, kFunctionCall, kBadExpr, exprKinds, exprOf, stepOf, head, restOf, read, stmtKinds, stmtOf, kBadStmt, readDeclaration, readAssignment, readMethodCall}
 use Rattle.labels.specs.Table.{Leaf, declares, assigns, calls, loops, bad}
 use Rattle.fields.proofs.Chain.{after}
-use Rattle.label_references.proofs.Leading.{Leads, leads-bind, leads-none, leads-ret}
+use Rattle.label_references.proofs.Leading.{Leads, leads-bind, leads-none, leads-ret, leads-deep}
 
 -- what is got, if anything, is got where as much is counted as at c
 abbrev pub Same : {A : Type 0} → Cur → Got A → Type 0
@@ -122,13 +122,8 @@ pub keeps-option : {A : Type 0} {m : Reader A} → Keeps m → Keeps (option m)
 unfolding option
 keeps-option k = keeps-either (keeps-ret _) (keeps-bind k λ a. keeps-ret _)
 
-deep-go : {A B : Type 0} (p : ℕ) (c : Cur) (q : Got A) → Same {A = B} c (elim q [ got a next ↦ refused 7 p | refused i j ↦ refused i j ])
-deep-go p c (got a d) = leads-none _ refl
-deep-go p c (refused i j) = leads-none _ refl
-
 keeps-deep : {A B : Type 0} (m : Reader A) → Keeps (tooDeep {B = B} m)
-unfolding tooDeep
-keeps-deep m = record { at = λ s c. deep-go (c .at) c (m s c) }
+keeps-deep m = record { at = λ s c. leads-deep m s c }
 
 -- types
 ty-go : {t u : Reader (Ty Spot)} (n : ℕ) → Keeps t → Keeps u → (k : TyKind) → Keeps (tyOf t u n k)

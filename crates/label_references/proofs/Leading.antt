@@ -1,13 +1,13 @@
 -- Whatever a reader of the definitions reads: its parts one after another.
-use mathlib.Core.Path.{_≡_, refl, sym, ap, subst, _∙_}
+use mathlib.Core.Path.{_≡_, sym, ap, subst, _∙_}
 use mathlib.Core.List.{List, [], _∷_}
 use Prim.Native.Nat.{ℕ, zero, suc, _+_, _-_, _≤_, _<_}
 use native.Mathlib.Omega.{arith}
 use Rattle.penne.specs.Tree.{Spot, Ident}
 use Rattle.penne.specs.Reader.{Counts, Cur, Got, got, refused, Reader, _>>=_, ret, num, below, many}
 use Rattle.penne.specs.Read.{ident, place}
-use Rattle.penne.proofs.Leading.{never as never-got}
-pub use Rattle.penne.proofs.Leading.{Leads}
+use Rattle.penne.proofs.Leading.{never as never-got, leads-got, leads-bind as bind-leads}
+pub use Rattle.penne.proofs.Leading.{Leads, leads-deep}
 use Rattle.fields.specs.declared.number.Read.{Read}
 use Rattle.fields.specs.declared.number.Read.the-variants.{Number, Refused}
 use Rattle.fields.specs.declared.field.Identifier.{Identifier}
@@ -18,7 +18,7 @@ use Rattle.fields.specs.declared.counts.Passed.{Passed}
 use Rattle.fields.specs.declared.counts.Passed.the-variants.{To}
 use Rattle.fields.specs.declared.counts.Passed.the-variants as P
 use Rattle.fields.specs.Answers.{cursor, endOf, forget, Gives, Reads, Ends, Skips, identOf, identifiedOf, Identifies, countsOf, passedOf, Passes, operator, twoPlaces}
-use Rattle.fields.proofs.Chain.{after, never, never′, here, operator-same, places-same, reads}
+use Rattle.fields.proofs.Chain.{never, never′, here, operator-same, places-same, reads}
 use Rattle.fields.proofs.Fields.{goes, stops}
 
 pub leads-none : {A : Type 0} {P : A → Cur → Type 0} (q : Got A) {i p : ℕ} → q ≡ refused i p → Leads q P
@@ -29,16 +29,11 @@ leads-same e h = record { to = λ x. h .to (sym e ∙ x) }
 
 pub leads-ret : {A : Type 0} {P : A → Cur → Type 0} (a : A) (s : List ℕ) (c : Cur) → P a c → Leads (ret a s c) P
 unfolding ret
-leads-ret {A} {P} a s c h = record { to = λ {x} {d = d} e. let u : a ≡ x = cc in let v : c ≡ d = cc in subst (λ (y : A). P y d) u (subst (λ (y : Cur). P a y) v h) }
+leads-ret a s c h = leads-got a c h
 
 -- any reader, and what follows it
-bind-go : {A B : Type 0} {P : B → Cur → Type 0} (f : A → Reader B) (s : List ℕ) (q : Got A) → ((x : A) (c : Cur) → q ≡ got x c → Leads (f x s c) P) → Leads (after f s q) P
-bind-go f s (got x c) h = h x c refl
-bind-go f s (refused i p) h = record { to = λ e. never-got e }
-
 pub leads-bind : {A B : Type 0} {P : B → Cur → Type 0} (f : A → Reader B) (m : Reader A) (s : List ℕ) (c : Cur) → ((x : A) (d : Cur) → m s c ≡ got x d → Leads (f x s d) P) → Leads ((m >>= f) s c) P
-unfolding _>>=_
-leads-bind f m s c h = bind-go f s (m s c) h
+leads-bind f m s c h = bind-leads m f s c h
 
 part-here : {A : Type 0} {m : Reader A} {s : List ℕ} {names at : ℕ} {m₁ : Read} (g : Ends m s names at m₁) (k : Counts) {v n : ℕ} → m₁ ≡ Number v n → (x : A) (d : Cur) → m s (cursor at names k) ≡ got x d → cursor n names k ≡ d
 unfolding endOf forget

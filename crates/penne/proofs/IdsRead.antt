@@ -11,7 +11,7 @@ use borrow.Author.Tests.{ltb-true, leb-true}
 use Rattle.penne.specs.Tree.{Spot, Ident, Poison, poison, earlier, Maybe, ok, err, Ty, Kind, expr, ref, step, item, one, Node, stmt, Stm, Param, Body, Decl, Tree}
 use Rattle.penne.specs.Reader.{Counts, Cur, Got, got, refused, Reader, _>>=_, ret, such, moved, lastGroup, groups, num, below, raw, bytes, many, listed, each, counting, counted, tooDeep, plus, fits, nothing}
 use Rattle.penne.specs.Read.{place, name, ident, poisonFields, poisonOf, readPoison, either, maybe, option, TyKind, kPlain, kArray, kNamedLength, kArraylike, kStruct, kWord, kUnresolved, kNameless, kPointer, kView, tyOf, readTy, toNodes, ExprKind, kBinary, kUnary, kBoolean, kSigned, kBits, kString, kArrayLiteral, kStructural, kParenthesized, kDeref, kBitCast, kTypeCast, kLengthOfArray, kSizeOf, kFunctionCall, kBadExpr, Readers, itemOf, readBinary, readUnary, readBoolean, readInteger, readString, readArrayLiteral, readStructural, readParenthesized, readDeref, readBitCast, readTypeCast, readLengthOfArray, readSizeOf, readFunctionCall, exprOf, stepOf, head, restOf, read, toStms, StmtKind, kDeclaration, kAssignment, kMethodCall, kLoop, kGoto, kLabel, kIf, kBlock, kBadStmt, elseOf, readDeclaration, readAssignment, readMethodCall, readJump, readIf, readBlock, stmtOf, stmtHead, readStmt, readBody, readParam, DeclKind, kConstant, kFunction, kFunctionHead, kStructure, kImport, kBadDecl, readConstant, readFunction, readFunctionHead, readStructure, readImport, declOf, declHead, readDecl, readNames, tabled, readTree, incoming, ended, decode}
-use Rattle.penne.proofs.Leading.{Leads, never, leads-got, leads-no, leads-bind, leads-such}
+use Rattle.penne.proofs.Leading.{Leads, never, leads-got, leads-no, leads-bind, leads-such, leads-deep}
 use Rattle.penne.specs.Ids.{idsNode, idsOption, idsStm, idsBody, idsName, idsParams, idsDecl, idsOwn, idsDecls, idsLabels, idsLabelsBody, idsLabelsDecl, idsLabelsDecls}
 
 -- BYTES SPENT
@@ -55,23 +55,18 @@ module _ {B : Type 0} {base : ℕ} {h : B → ℕ} where
   }
 
 module _ {A : Type 0} {base : ℕ} {m : Reader A} {h : A → ℕ} where
-  costs-such : (test : A → Cur → Bool) (n : ℕ) → Costs base m h → Costs base (such m test n) h
+  pub costs-such : (test : A → Cur → Bool) (n : ℕ) → Costs base m h → Costs base (such m test n) h
   costs-such test n g = costs λ s c. leads-such m test n s c (leads g s c)
 
   -- the first number of something that counts costs what it costs
-  costs-counting : (k : A → Counts) → Costs base m h → Costs base (counting k m) h
+  pub costs-counting : (k : A → Counts) → Costs base m h → Costs base (counting k m) h
   unfolding counting counted
   costs-counting k g = costs λ s c. leads-bind (such m (λ a c. fits (plus (c .counts) (k a))) 8) _ s c λ x d e.
       let u = costs-such (λ a c. fits (plus (c .counts) (k a))) 8 g .at s c e in
       leads-got x _ (record { bytes = u .bytes; inside = u .inside })
 
-costs-deep : {A B : Type 0} {base : ℕ} {h : B → ℕ} (m : Reader A) → Costs {A = B} base (tooDeep m) h
-unfolding tooDeep
-costs-deep {A} {B} m = costs λ s c. go (c .at) (m s c)
-  where
-    go : (p : ℕ) (q : Got A) {X : B → Cur → Type 0} → Leads {A = B} (elim q [ got a next ↦ refused 7 p | refused i j ↦ refused i j ]) X
-    go p (got x d) = leads-no
-    go p (refused i j) = leads-no
+pub costs-deep : {A B : Type 0} {base : ℕ} {h : B → ℕ} (m : Reader A) → Costs {A = B} base (tooDeep m) h
+costs-deep m = costs λ s c. leads-deep m s c
 
 -- NUMBERS AND BYTES
 
@@ -98,19 +93,19 @@ pub costs-num : Costs 0 num (λ _. 1)
 unfolding num
 costs-num = costs λ s c. let r = leads-groups 5 (c .at) 1 0 s (c .at) c in record { to = λ q. let z = r .to q in record { bytes = omega (arith, z .0); inside = λ _. z .1 } }
 
-costs-below : (k : ℕ) → Costs 0 (below k) (λ _. 1)
+pub costs-below : (k : ℕ) → Costs 0 (below k) (λ _. 1)
 unfolding below
 costs-below k = costs-such _ _ costs-num
 
-costs-name : Costs 0 name (λ _. 1)
+pub costs-name : Costs 0 name (λ _. 1)
 unfolding name
 costs-name = costs-such _ _ costs-num
 
-costs-place : Costs 0 place (λ _. 1)
+pub costs-place : Costs 0 place (λ _. 1)
 unfolding place
 costs-place = record { at = λ s c. let spot : ℕ → Spot = λ n. record { number = n; from = c .at } in (let r : Costs 0 (num >>= λ n. ret (spot n)) (λ _. 1) = costs-bind costs-num λ n. costs-ret (spot n) (omega arith) in r .at s c) }
 
-costs-ident : Costs 0 ident (λ _. 1)
+pub costs-ident : Costs 0 ident (λ _. 1)
 unfolding ident
 costs-ident = record {
   at = λ s c.
@@ -119,14 +114,14 @@ costs-ident = record {
       = costs-bind costs-name λ n. costs-skip costs-num λ p. costs-skip costs-num λ i. costs-skip (costs-below 2) λ a. costs-ret (made n p i a) (omega arith) in r .at s c);
 }
 
-costs-raw : (n : ℕ) → Costs 0 (raw n) (λ _. 0)
+pub costs-raw : (n : ℕ) → Costs 0 (raw n) (λ _. 0)
 unfolding raw moved
 costs-raw n = costs λ s c. (elim (leb (c .at + n) (length s)) as (λ t. leb (c .at + n) (length s) ≡ t → Leads {A = List ℕ} (elim t [ true ↦ got (take n (drop (c .at) s)) (moved c (c .at + n)) | false ↦ refused 3 (c .at) ]) (λ _ d. Spent 0 0 s c d)) [
   | true ↦ λ e. leads-got _ _ (record { bytes = omega arith; inside = λ _. leb-true _ _ e })
   | false ↦ λ e. leads-no
 ]) refl
 
-costs-bytes : Costs 0 bytes (λ _. 0)
+pub costs-bytes : Costs 0 bytes (λ _. 0)
 unfolding bytes
 costs-bytes = costs-skip costs-num costs-raw
 
@@ -155,7 +150,7 @@ costs-either {A} {base} {h} {a} {b} x y = costs-skip (costs-below 2) go
     go zero = x
     go (suc k) = y
 
-costs-poison : Costs 0 readPoison (λ _. 0)
+pub costs-poison : Costs 0 readPoison (λ _. 0)
 unfolding readPoison poisonOf
 costs-poison = costs-skip (costs-below 18) λ k. go k (eqb k 17)
   where
@@ -174,7 +169,7 @@ costs-option g i j = costs-either (costs-ret _ j) (costs-bind g λ x. costs-ret 
 -- TYPES
 
 -- a poison in the place of what has no weight
-costs-maybe-none : {A : Type 0} {m : Reader A} {h : A → ℕ} → Costs 0 m h → Costs 0 (maybe m) (λ _. 0)
+pub costs-maybe-none : {A : Type 0} {m : Reader A} {h : A → ℕ} → Costs 0 m h → Costs 0 (maybe m) (λ _. 0)
 costs-maybe-none g = costs-maybe g (λ x. omega arith) (λ z. omega arith)
 
 costs-ty-kind : {t u : Reader (Ty Spot)} → Costs 0 t (λ _. 0) → Costs 0 u (λ _. 0) → (n : ℕ) (k : TyKind) → Costs 0 (tyOf t u n k) (λ _. 0)
@@ -190,12 +185,12 @@ costs-ty-kind t u n kNameless = costs-ret _ (omega arith)
 costs-ty-kind t u n kPointer = costs-skip u λ x. costs-ret _ (omega arith)
 costs-ty-kind t u n kView = costs-skip u λ x. costs-ret _ (omega arith)
 
-costs-ty : (d : ℕ) (own : Bool) → Costs 0 (readTy d own) (λ _. 0)
+pub costs-ty : (d : ℕ) (own : Bool) → Costs 0 (readTy d own) (λ _. 0)
 unfolding readTy
 costs-ty zero own = costs-deep _
 costs-ty (suc d) own = costs-skip (costs-such _ _ (costs-below 26)) λ n. costs-ty-kind (costs-ty d own) (costs-ty d false) n _
 
-costs-carried : (d : ℕ) → Costs 0 (option (maybe (readTy d false))) (λ _. 0)
+pub costs-carried : (d : ℕ) → Costs 0 (option (maybe (readTy d false))) (λ _. 0)
 costs-carried d = costs-option (costs-maybe-none (costs-ty d false)) (λ _. omega arith) (omega arith)
 
 -- EXPRESSIONS, REFERENCES, STEPS
@@ -278,7 +273,7 @@ module _ (d : ℕ) {m : Reader (Stm Spot stmt)} (M : Costs 0 m idsBoth) where
   costs-stmt-kind kBlock = costs-skip costs-place λ p. costs-bind (costs-listed sums-stms M) λ ts. costs-ret _ (omega arith)
   costs-stmt-kind kBadStmt = costs-skip costs-poison λ p. costs-ret _ (omega arith)
 
-costs-head : Costs 0 stmtHead (λ _. 1)
+pub costs-head : Costs 0 stmtHead (λ _. 1)
 unfolding stmtHead
 costs-head = costs-bind (costs-below 9) λ n. costs-ret _ (omega arith)
 
@@ -320,7 +315,7 @@ sums-params = record { none = refl; more = λ x xs. refl }
 abbrev pub bothDecl : Decl Spot → ℕ
 bothDecl d = idsOwn d + idsDecl d + idsLabelsDecl d
 
-costs-params : (d : ℕ) (own : Bool) → Costs 0 (listed (readParam d own)) idsParams
+pub costs-params : (d : ℕ) (own : Bool) → Costs 0 (listed (readParam d own)) idsParams
 costs-params d own = costs-listed sums-params (costs-param d own)
 
 costs-decl-kind : (d : ℕ) (k : DeclKind) → Costs 1 (declOf d k) bothDecl
@@ -332,7 +327,7 @@ costs-decl-kind d kStructure = costs-skip (costs-below 32) λ f. costs-skip cost
 costs-decl-kind d kImport = costs-skip costs-bytes λ b. costs-skip costs-place λ p. costs-ret _ (omega arith)
 costs-decl-kind d kBadDecl = costs-skip costs-poison λ z. costs-ret _ (omega arith)
 
-costs-decl-head : Costs 0 declHead (λ _. 1)
+pub costs-decl-head : Costs 0 declHead (λ _. 1)
 unfolding declHead
 costs-decl-head = costs-bind (costs-below 6) λ n. costs-ret _ (omega arith)
 
@@ -350,16 +345,16 @@ sums-decls : Sums bothDecl bothDecls
 unfolding idsDecls idsLabelsDecls
 sums-decls = record { none = refl; more = λ x xs. omega arith }
 
-costs-names : (k : ℕ) (before : List (List ℕ)) → Costs 0 (readNames k before) (λ _. 0)
+pub costs-names : (k : ℕ) (before : List (List ℕ)) → Costs 0 (readNames k before) (λ _. 0)
 unfolding readNames
 costs-names zero before = costs-ret _ (omega arith)
 costs-names (suc k) before = costs-skip (costs-such _ _ costs-num) λ n. costs-skip (costs-such _ _ (costs-raw n)) λ b. costs-names k _
 
-costs-tabled : (n : ℕ) → Costs 0 (tabled n) (λ _. 0)
+pub costs-tabled : (n : ℕ) → Costs 0 (tabled n) (λ _. 0)
 unfolding tabled
 costs-tabled n = costs λ s c. leads-got _ _ (record { bytes = omega arith; inside = λ z. z })
 
-costs-each : (ds : List (Decl Spot)) → Costs 0 (each incoming ds) (λ _. length ds)
+pub costs-each : (ds : List (Decl Spot)) → Costs 0 (each incoming ds) (λ _. length ds)
 unfolding each incoming
 costs-each [] = costs-ret _ (omega arith)
 costs-each (d ∷ ds) = costs-bind (costs-below 1) λ h. costs-bind (costs-each ds) λ hs. costs-ret _ (omega arith)
@@ -368,7 +363,7 @@ costs-all : (k : ℕ) → Costs 1 (many readDecl k) (λ ds. 1 + bothDecls ds)
 costs-all k = record { at = λ s c e. (let u = costs-many sums-decls costs-decl k .at s c e in record { bytes = omega (arith, u .bytes); inside = u .inside }) }
 
 -- two counts, the declarations, a depth for each
-costs-tree : Costs 0 (readTree incoming) (λ t. 2 + bothDecls (t .decls) + length (t .decls))
+pub costs-tree : Costs 0 (readTree incoming) (λ t. 2 + bothDecls (t .decls) + length (t .decls))
 unfolding readTree listed
 costs-tree = costs-bind (costs-such _ _ costs-num) λ n. costs-skip (costs-names n []) λ ns. costs-skip (costs-tabled n) λ _. costs-bind (costs-bind costs-num λ k. costs-all k) λ ds. costs-bind (costs-each ds) λ hs. costs-ret _ (omega arith)
 
@@ -388,7 +383,7 @@ declared-bytes s e =
     let z = costs-declared .at s (record { at = 0; names = 0; counts = nothing }) e in
     omega (arith, z .bytes, z .inside (omega arith))
 
-ended-got : {A : Type 0} (s : List ℕ) (q : Got A) {x : A} {d : Cur} → ended s q ≡ got x d → q ≡ got x d
+pub ended-got : {A : Type 0} (s : List ℕ) (q : Got A) {x : A} {d : Cur} → ended s q ≡ got x d → q ≡ got x d
 unfolding ended
 ended-got {A} s (got a c) {x} {d} e = go (ltb (c .at) (length s)) e
   where

@@ -4,7 +4,7 @@ use mathlib.Core.Bool.{Bool, true, false}
 use mathlib.Core.Path.{_≡_, refl, ap, subst}
 use mathlib.Core.List.{List}
 use native.Mathlib.Omega.{arith}
-use Rattle.penne.specs.Reader.{Cur, Got, got, refused, Reader, _>>=_, such}
+use Rattle.penne.specs.Reader.{Cur, Got, got, refused, Reader, _>>=_, such, tooDeep}
 
 -- whatever is got, the claim holds of it
 pub record Leads {A : Type 0} (q : Got A) (X : A → Cur → Type 0) : Type 0 where
@@ -40,6 +40,10 @@ leads-bind {A} {B} {X} m f s c h = go (m s c) refl
     go (got x d) e = h x d e
     go (refused n p) e = leads-no
 
+-- both parts of what was got
+pub bind-got : {A B : Type 0} (m : Reader A) (f : A → Reader B) (s : List ℕ) (c : Cur) {y : B} {d : Cur} → (m >>= f) s c ≡ got y d → (x : A) × (e : Cur) × (m s c ≡ got x e) × (f x s e ≡ got y d)
+bind-got m f s c = leads-bind {X = λ y d. (x : _) × (e : Cur) × (m s c ≡ got x e) × (f x s e ≡ got y d)} m f s c (λ x e g. record { to = λ h. (x, e, g, h) }) .to
+
 pub leads-such : {A : Type 0} {X : A → Cur → Type 0} (m : Reader A) (test : A → Cur → Bool) (n : ℕ) (s : List ℕ) (c : Cur) → Leads (m s c) X → Leads (such m test n s c) X
 unfolding such
 leads-such {A} {X} m test n s c h = go (m s c) h
@@ -51,3 +55,12 @@ leads-such {A} {X} m test n s c h = go (m s c) h
     go : (q : Got A) → Leads q X → Leads {A = A} (elim q [ got a next ↦ elim (test a next) [ true ↦ got a next | false ↦ refused n (c .at) ] | refused k p ↦ refused k p ]) X
     go (got x d) h = pick (test x d) x d h
     go (refused k p) h = leads-no
+
+-- nothing is got beyond the limit of nesting
+pub leads-deep : {A B : Type 0} {X : B → Cur → Type 0} (m : Reader A) (s : List ℕ) (c : Cur) → Leads {A = B} (tooDeep m s c) X
+unfolding tooDeep
+leads-deep {A} {B} {X} m s c = go (m s c)
+  where
+    go : (q : Got A) → Leads {A = B} (elim q [ got a next ↦ refused 7 (c .at) | refused i j ↦ refused i j ]) X
+    go (got x d) = leads-no
+    go (refused i j) = leads-no

@@ -14,7 +14,7 @@ pub record Leaves {P A : Type 0} (m : Q.Pass P A) : Type 0 where
   pub same : (a : Analyzer P) → (m a .1) .prunings ≡ a .prunings
 
 -- steps that are made of such steps
-l-ret : {P A : Type 0} (x : A) → Leaves {P = P} (S.ret x)
+pub l-ret : {P A : Type 0} (x : A) → Leaves {P = P} (S.ret x)
 unfolding S.ret
 l-ret x = record { same = λ a. refl }
 
@@ -22,7 +22,7 @@ pub l-bind : {P A B : Type 0} {m : Q.Pass P A} {f : A → Q.Pass P B} → Leaves
 unfolding S._>>=_
 l-bind {m = m} p q = record { same = λ a. q (m a .0) .same (m a .1) ∙ p .same a }
 
-l-scope : {P A : Type 0} {m : Q.Pass P A} → Leaves m → Leaves (Q.inNewScope m)
+pub l-scope : {P A : Type 0} {m : Q.Pass P A} → Leaves m → Leaves (Q.inNewScope m)
 unfolding Q.inNewScope Q.withStack
 l-scope p = record { same = λ a. p .same _ }
 
@@ -40,7 +40,7 @@ unfolding Q.useContainee Q.onContainment Q.withContainment
 l-containee i (some c) = record { same = λ a. refl }
 l-containee i none = l-ret (ok i)
 
-l-as : {P : Type 0} (i j : Ident P) → Leaves (Q.useAs i j)
+pub l-as : {P : Type 0} (i j : Ident P) → Leaves (Q.useAs i j)
 unfolding Q.useAs
 l-as i j = record { same = λ a. l-containee _ _ .same a }
 
@@ -64,7 +64,7 @@ unfolding Q.useStruct
 l-struct i = record { same = λ a. l-structAt i _ .same a }
 
 -- types
-l-type : {P : Type 0} (t : Ty P) → Leaves (V′.analyzeType t)
+pub l-type : {P : Type 0} (t : Ty P) → Leaves (V′.analyzeType t)
 unfolding V′.analyzeType
 l-type (plain k) = l-ret _
 l-type (array t n) = l-try (l-type t) (λ x. l-ret _)
@@ -114,7 +114,7 @@ unfolding V′.analyzeMember
 l-member c x = l-bind (l-param 6 x) (λ m. l-bind (l-edges c (m .ident) (m .type)) (λ t. l-ret _))
 
 -- functions
-l-function : {P : Type 0} (i : Ident P) → Leaves (Q.useFunction i)
+pub l-function : {P : Type 0} (i : Ident P) → Leaves (Q.useFunction i)
 unfolding Q.useFunction
 l-function i = record { same = λ a. refl }
 

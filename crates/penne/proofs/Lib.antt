@@ -40,6 +40,9 @@ pub mod IdsBelow
 pub mod IdsVariables
 pub mod IdsLabels
 pub mod IdsGiven
+pub mod Rising
+pub mod OffsetsRead
+pub mod InOrder
 pub mod Natural
 pub mod PlaceReading
 pub mod PlaceWidths

@@ -2,7 +2,7 @@
 use Prim.Native.Nat.{ℕ, zero, suc, _+_}
 use mathlib.Core.Bool.{Bool, true, false, not}
 use mathlib.Core.Path.{_≡_, refl, sym, _∙_, ap}
-use mathlib.Core.List.{List, [], _∷_, _++_, map}
+use mathlib.Core.List.{List, [], _∷_, _++_, map, map-append}
 use mathlib.Core.Option.{Option, none, some}
 use lib.ListN.{length, drop, length-map}
 use Rattle.penne.specs.Tree.{Ident, Maybe, ok, err, Ty, plain, array, arrayWithNamedLength, arraylike, struct, word, unresolved, nameless, pointer, view, Carried, Kind, Sort, listOf, Expr, Node, nil, cons, binary, unary, boolean, signed, bits, string, arrayLiteral, structural, parenthesized, deref, bitCast, typeCast, lengthOfArray, sizeOf, functionCall, badExpr, reference, element, member, memberExpression, StmSort, Stm, nil′, cons′, declaration, assignment, methodCall, loop, goto, label, ifElse, block, badStmt, noElse, orElse, Param, Body, Decl, constant, function, functionHead, structure, import, badDecl, Tree}
@@ -59,10 +59,6 @@ module _ {P P′ : Type 0} (f : P → P′) where
   nat-bind : {A A′ B B′ : Type 0} {g : A → A′} {h : B → B′} {m : Pass P A} {m′ : Pass P′ A′} (k : A → Pass P B) (k′ : A′ → Pass P′ B′) → Nat g m m′ → ((x : A) → Nat h (k x) (k′ (g x))) → Nat h (S._>>=_ m k) (S._>>=_ m′ k′)
   unfolding S._>>=_
   nat-bind {m} k k′ p q = record { at = λ a. ap (λ r. k′ (r .0) (r .1)) (p .at a) ∙ q (m a .0) .at (m a .1) }
-
-  map-append : {A B : Type 0} (g : A → B) (xs ys : List A) → map g (xs ++ ys) ≡ map g xs ++ map g ys
-  map-append g [] ys = refl
-  map-append g (x ∷ xs) ys = ap (λ l. g x ∷ l) (map-append g xs ys)
 
   first-map : {A B : Type 0} (g : A → B) (t : A → Bool) (t′ : B → Bool) → ((x : A) → t′ (g x) ≡ t x) → (xs : List A) → first t′ (map g xs) ≡ mapOption g (first t xs)
   unfolding first mapOption

@@ -3,7 +3,7 @@ use Prim.Native.Nat.{ℕ, zero, suc}
 use native.Mathlib.Omega.{arith}
 use mathlib.Core.Bool.{Bool, true, false, _&&_, not}
 use mathlib.Core.Path.{_≡_, refl, sym, ap, subst, _∙_}
-use mathlib.Core.List.{List, [], _∷_, _++_, map, flatMap}
+use mathlib.Core.List.{List, [], _∷_, _++_, map, flatMap, map-append}
 use mathlib.Core.Option.{Option, none, some}
 use lib.Dec.{ltb, leb}
 use lib.ListN.{length, getD, take, getElem?}
@@ -17,7 +17,9 @@ use Rattle.penne.specs.Variables.{postanalyzed}
 use Rattle.penne.specs.Tree.{Spot, Maybe, ok, err, Param, Body, Decl, constant, function, functionHead, structure, import, badDecl, Tree}
 use Rattle.penne.specs.Scoper.{Answer, answer, refusal, analyze, answeredTree, skipList, answerTo, words, ifRoom, scopedAnswer, padded, outcome, scoped, Outcome}
 use Rattle.penne.specs.Walks.{bodyActs, namesAt, premise, functionNames, isBody, hasBody, partsOf, NamesSkipped}
+use Rattle.penne.specs.Order.{Rising}
 use Rattle.penne.proofs.Demand3.{demand3}
+use Rattle.penne.proofs.InOrder.{in-tree-order}
 use Rattle.penne.proofs.Incoming.{same-functions, promised}
 use Rattle.penne.proofs.IdsGiven.{ids-few}
 use Rattle.penne.proofs.PlaceRule.{place-rule}
@@ -103,10 +105,6 @@ parts-map : {A B : Type 0} (f : A → B) (xs : List (List A)) → map f (flatMap
 unfolding flatMap
 parts-map f [] = refl
 parts-map f (x ∷ xs) = map-append f x (flatMap (λ x. x) xs) ∙ ap (λ (y : List _). map f x ++ y) (parts-map f xs)
-  where
-    map-append : {A B : Type 0} (f : A → B) (xs ys : List A) → map f (xs ++ ys) ≡ map f xs ++ map f ys
-    map-append f [] ys = refl
-    map-append f (x ∷ xs) ys = ap (λ (l : List _). f x ∷ l) (map-append f xs ys)
 
 part-map : {A B : Type 0} (f : A → B) (xs : List (List A)) (k : ℕ) → getD (map (map f) xs) k [] ≡ map f (getD xs k [])
 part-map f [] k = refl
@@ -182,6 +180,7 @@ pub skip-lists : Skip-lists
 skip-lists c bytes records a = record {
   parts = parts (a .script);
   whole = a .list-is ∙ ap (λ (rs : List (ℕ × ℕ)). padded (length (c .list)) (words rs)) (whole-list (a .script));
+  ordered = subst (λ (rs : List (ℕ × ℕ)). Rising 0 (length (c .tree)) (map (λ r. r .0) rs)) (whole-list (a .script)) (in-tree-order (c .tree) (a .script) (a .behind) (a .came));
   functions = in-function (a .script);
   others = nothing-else (a .script);
 }

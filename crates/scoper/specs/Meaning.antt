@@ -2,7 +2,7 @@
 use Prim.Native.Nat.{ℕ}
 use mathlib.Core.Bool.{true, false}
 use mathlib.Core.Path.{_≡_}
-use mathlib.Core.List.{List, [], flatMap}
+use mathlib.Core.List.{List, [], map, flatMap}
 use mathlib.Core.Option.{some}
 use lib.ListN.{length, getD, take, getElem?}
 use Rattle.penne.specs.Reader.{Cur, got}
@@ -14,6 +14,7 @@ use Rattle.penne.specs.Tree.{Spot, Ident, Maybe, ok, Ty, Param, Body, Decl, fun
 use Rattle.penne.specs.Scoper.{answeredTree, skipList, words, padded}
 use Rattle.penne.specs.Walks.{bodyActs, namesAt, premise, functionNames, hasBody, NamesSkipped}
 use Rattle.penne.specs.Standing.{Agrees}
+use Rattle.penne.specs.Order.{Rising}
 use Rattle.penne.specs.Ids.{Given}
 use Rattle.penne.specs.PlaceRule.{DifferInPlaces, SameAnswers}
 use Rattle.scoper.specs.declared.Scoped.{Scoped}
@@ -90,6 +91,8 @@ pub record InFunction (script : Tree Spot) (k : ℕ) (ps : List (Param Spot)) (p
 pub record Lists (c : Call) (script : Tree Spot) : Type 0 where
   pub parts : List (List (ℕ × ℕ))
   pub whole : c .list′ ≡ padded (length (c .list)) (words (flatMap (λ part. part) parts))
+  -- each once, in tree order: the offsets of the uses are offsets of the input, and each is greater than the one before it
+  pub ordered : Rising 0 (length (c .tree)) (map (λ r. r .0) (flatMap (λ part. part) parts))
   -- "In every kept function in which no branch of an if is itself a declaration or a label"
   pub functions : (k : ℕ) (ps : List (Param Spot)) (b : Body Spot) → Kept (script .decls) k ps b → premise (b .statements) ≡ true → InFunction script k ps (getD parts k [])
   -- what is no kept function with a body has no part in it

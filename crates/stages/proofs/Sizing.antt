@@ -9,9 +9,9 @@ use Rattle.penne.specs.Tree.{Spot, Ident, Maybe, ok, err, expr, stmt, StmSort, 
 use Rattle.penne.specs.Reader.{Counts, Cur, got, Reader, _>>=_, ret, num, below, bytes, many, listed, plus, counting, tooDeep, nothing, aContainer, aFunction, anEntry, aStatement}
 use Rattle.penne.specs.Read.{place, ident, readPoison, either, maybe, option, readTy, read, toStms, StmtKind, kDeclaration, kAssignment, kMethodCall, kLoop, kGoto, kLabel, kIf, kBlock, kBadStmt, stmtHead, stmtCounts, stmtOf, readStmt, elseOf, readDeclaration, readAssignment, readMethodCall, readJump, readIf, readBlock, readBody, readParam, DeclKind, kConstant, kFunction, kFunctionHead, kStructure, kImport, kBadDecl, declHead, declCounts, declOf, readDecl, readConstant, readFunction, readFunctionHead, readStructure, readImport}
 use Rattle.label_references.specs.Marked.{marked, markedBody, markedDecl, rest}
-use Rattle.label_references.proofs.Leading.{Leads, leads-ret, leads-bind}
+use Rattle.label_references.proofs.Leading.{Leads, leads-ret, leads-bind, leads-deep}
 use Rattle.label_references.proofs.Keeping.{Keeps, keeps-ret, keeps-bind, keeps-num, keeps-below, keeps-place, keeps-ident, keeps-listed, keeps-poison, keeps-maybe, keeps-option, keeps-ty, keeps-read, keeps-bytes}
-use Rattle.label_references.proofs.Growing.{Counts-on, counting-leads, deep-go}
+use Rattle.label_references.proofs.Growing.{Counts-on, counting-leads, keeps-head}
 use Rattle.stages.specs.Heads.{rowsOf}
 
 -- HOW MANY STATEMENTS
@@ -177,13 +177,9 @@ sizes-kind d g kIf = sizes-keep keeps-place λ p. sizes-keep keeps-num λ o. siz
 sizes-kind d g kBlock = sizes-keep keeps-place λ p. sizes-bind (sizes-listed g) λ ts. sizes-ret _ (omega arith) (omega arith) (omega arith)
 sizes-kind d g kBadStmt = sizes-keep keeps-poison λ p. sizes-ret _ refl refl refl
 
-keeps-head : Keeps stmtHead
-unfolding stmtHead
-keeps-head = keeps-bind (keeps-below 9) λ n. keeps-ret _
-
 sizes-stmt : (d : ℕ) → Sizes 0 0 0 (readStmt d) size zeros zeros
-unfolding readStmt tooDeep
-sizes-stmt zero = record { at = λ s c d x. deep-go (d .at) (stmtHead s d) }
+unfolding readStmt
+sizes-stmt zero = record { at = λ s c d x. leads-deep stmtHead s d }
 sizes-stmt (suc d) = sizes-counting stmtCounts keeps-head λ k. sizes-kind d (sizes-stmt d) k
 
 -- DECLARATIONS

@@ -28,7 +28,7 @@ use Rattle.walk.specs.declared.names.Named.the-variants as N
 use Rattle.walk.specs.Walking.{Moves, Writes, here, Ground, Good, Is, onward, silently, say, Input, Walks, faultB, madeB, Made, Naming, walkOf, usedOf, Numbers, numbering}
 use Rattle.walk.specs.Calls.{DeclaresBy}
 use Rattle.walk.proofs.Leading.{leads-refused, is-same, walks}
-use Rattle.walk.proofs.Writing.{moved, wrote, instead, here-behind, here-moved}
+use Rattle.walk.proofs.Writing.{moved, wrote, instead, here-after, here-behind}
 use Rattle.walk.proofs.Identifying.{identified-low}
 use Rattle.types.proofs.Trying.{leads-just}
 use Rattle.walk.proofs.Using.{made-used, made-refused}
@@ -119,6 +119,6 @@ module _ {t : List ℕ} {s : Walk} {r₁ : Identified} (g : Identifies t (s .scr
   pub body-named : {j : Identifier} {n : ℕ} {x : Wrote} {s₁ s₂ r : Walk} {o′ : List ℕ} → r₁ ≡ I.Is j n → Put (s .wrote) (identifierB (j .name) (j .place) (s .tables .«next_id») 0) o x o′ → Writes s x s₁ → Moves s₁ n s₂ → Numbers s₂ r → Walks t ident (onward nameBody identB) s o l w r o′ l w
   unfolding identifiedOf nameBody nextId
   body-named {j} {n} e put wr mv nb = walks λ h a i. leads-just (sym (g .is _) ∙ ap (identifiedOf (s .script .names) (s .at) (countsOf (s .counts))) e) (record {
-    cur = sym (nb .cur ∙ here-moved mv ∙ ap (λ (y : Walk). cursor n (y .script .names) (countsOf (y .counts))) (wr .is));
+    cur = sym (nb .cur ∙ here-after wr mv);
     is = is-same (λ z. name-is j (s .at) (s .tables .«next_id») a (i .when (record { few = omega (arith, z .few); fit = z .fit }) .tables .next)) (nb .is (on i put wr mv));
   })

@@ -27,13 +27,13 @@ use Rattle.walk.specs.Walking.{Writes, Moves, here, Lower, Tables, Ground, Good
 use Rattle.walk.specs.Walking as W
 use Rattle.walk.specs.Calls.{Member, FoundIn, Edged, fine, bad}
 use Rattle.walk.proofs.Leading.{leads-call, leads-tried, leads-end, told-fine, told-bad, leads-at}
-use Rattle.walk.proofs.Writing.{here-moved, here-wrote, moved, wrote, out-is, instead}
+use Rattle.walk.proofs.Writing.{here-moved, here-after, here-wrote, moved, wrote, out-is, instead}
 use Rattle.walk.proofs.Choosing.{leads-unmaybe, leads-ok, leads-err}
 use Rattle.walk.proofs.Containing.{tables-changed}
 use Rattle.types.specs.Typing.{analyzeContained, Contains}
 use Rattle.types.proofs.Arms.{type-ids}
 use Rattle.types.proofs.Rows.{rows-type}
-use Rattle.types.proofs.Maybes.{here-after, fine-bytes, bad-bytes}
+use Rattle.types.proofs.Maybes.{fine-bytes, bad-bytes}
 
 -- THE PASS
 

@@ -20,7 +20,7 @@ use Rattle.walk.specs.declared.state.Walk.{Walk}
 use Rattle.walk.specs.declared.fault.Fault.{Fault}
 use Rattle.walk.specs.Walking.{Writes, Moves, here, onward, say, sayPoison, Walks, faultB, okB, Answers, fine, bad, Tries}
 use Rattle.walk.proofs.Leading.{such-got, walks, leads-call, leads-tried, leads-end, leads-at}
-use Rattle.walk.proofs.Writing.{here-moved, here-wrote, moved, wrote, out-is, instead}
+use Rattle.walk.proofs.Writing.{here-moved, here-after, here-wrote, moved, wrote, out-is, instead}
 use Rattle.walk.proofs.Choosing.{leads-unmaybe, leads-ok, leads-err, leads-unoption, leads-none, leads-some}
 use Rattle.types.proofs.Arms.{type-ids}
 
@@ -33,10 +33,6 @@ fine-bytes xs (fine {x = y}) = append-assoc xs (numB 0) (tyB y)
 pub bad-bytes : {f : Fault} {y : Maybe Spot (Ty Spot)} → Answers (some f) y → numB 1 ++ faultB f ≡ maybeB tyB y
 unfolding maybeB
 bad-bytes (bad q) = ap (λ (xs : List ℕ). numB 1 ++ xs) q
-
--- where the reader is after the tag, written and passed
-pub here-after : {s s₁ s₂ : Walk} {b : Wrote} {n : ℕ} → Writes s b s₁ → Moves s₁ n s₂ → here s₂ ≡ cursor n (s .script .names) (countsOf (s .counts))
-here-after {n = n} wr mv = here-moved mv ∙ ap (λ (z : Walk). cursor n (z .script .names) (countsOf (z .counts))) (wr .is)
 
 -- A TYPE THAT MAY BE POISON
 

@@ -23,7 +23,7 @@ use Rattle.walk.specs.declared.names.Used.{Used}
 use Rattle.walk.specs.declared.names.Used.the-variants as U
 use Rattle.walk.specs.Walking.{Moves, Writes, here, Ground, Good, Is, onward, silently, say, Did, Leads, Walks, okB, Answers, fine, bad, Tried, Tries, Uses}
 use Rattle.walk.proofs.Leading.{same-value, same-cur, tries, leads-bind, leads-got, leads-refused, leads-call, leads-tried, is-same}
-use Rattle.walk.proofs.Writing.{here-moved, moved, wrote}
+use Rattle.walk.proofs.Writing.{here-moved, here-after, moved, wrote}
 use Rattle.walk.proofs.Using.{stepped, made-used, made-refused}
 use Rattle.types.specs.declared.Typed.{Typed}
 use Rattle.types.specs.declared.Typed.the-variants.{Fine, Bad}
@@ -161,7 +161,7 @@ passed i mv = record { cur = sym (here-moved mv); is = moved i mv }
 -- a number that is copied
 pub copied : {m : Reader ℕ} {t : List ℕ} {s s₁ r : Walk} {o o′ l w : List ℕ} {a : Ground} {q : Read} {v n : ℕ} {b : Wrote} → Gives m t (s .at) q → q ≡ Number v n → Is s o l w a → Put (s .wrote) (numB v) o b o′ → Writes s b s₁ → Moves s₁ n r
     → Leads m t (here s) (λ x d. Did d (say (numB x) a) r o′ l w)
-copied {n = n} g e i put wr mv = leads-given g e (record { cur = sym (here-moved mv ∙ ap (λ (z : Walk). cursor n (z .script .names) (countsOf (z .counts))) (wr .is)); is = moved (wrote i put wr) mv })
+copied g e i put wr mv = leads-given g e (record { cur = sym (here-after wr mv); is = moved (wrote i put wr) mv })
 
 -- A NAME THAT IS USED
 
@@ -177,7 +177,7 @@ module _ {p : Ident Spot → Pass Spot (Maybe Spot (Ident Spot))} (e : Ident Spo
         let k = v .does (s .at) o l a i₀ in
         leads-name g h (record {
           did = record {
-            cur = sym (here-moved mv ∙ ap (λ (z : Walk). cursor n (z .script .names) (countsOf (z .counts))) (wr .is));
+            cur = sym (here-after wr mv);
             is = is-same (λ z.
                 let f = made-used (k .made (record { few = z .few; fit = z .fit })) y in
                 ap (λ (xs : List ℕ). record { out = a .out ++ xs; st = p x (a .st) .1; rest = a .rest }) (bytes ∙ ap (okB e) (sym f))) (moved (wrote (k .is) put wr) mv);

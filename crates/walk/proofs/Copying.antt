@@ -22,7 +22,7 @@ use Rattle.fields.specs.declared.number.Read.the-variants.{Number, Refused}
 use Rattle.walk.specs.declared.state.Walk.{Walk}
 use Rattle.walk.specs.Walking.{here, Moves, Writes, Ground, Leads, Walks, say}
 use Rattle.walk.proofs.Leading.{never, same-value, same-cur, bind-got, such-got, walks, leads-bind, leads-got, leads-part, leads-ended}
-use Rattle.walk.proofs.Writing.{here-moved, wrote, moved as moved-to}
+use Rattle.walk.proofs.Writing.{here-after, wrote, moved as moved-to}
 
 -- A NUMBER IS THE SAME WHATEVER WAS COUNTED
 
@@ -173,7 +173,7 @@ spelled-poison = spelled-by λ s c. leads-bind (below 18) _ λ k d h. poison-of 
 pub copied : {A : Type 0} {m : Reader A} {e : A → List ℕ} → Spelled m e → (kind : ℕ) {t : List ℕ} {s : Walk} {o l w : List ℕ} {m₁ : Read} {v n : ℕ} {x : Wrote} {o′ : List ℕ} {s₁ r : Walk} → Ends m t (s .script .names) (s .at) m₁ → m₁ ≡ Number v n
     → Put (s .wrote) (numB kind ++ renumbered t (s .at) n) o x o′ → Writes s x s₁ → Moves s₁ n r → Walks t m (λ y a. say (numB kind ++ e y) a) s o l w r o′ l w
 copied p kind {t} {s} {o} {n = n} {x} {o′} {s₁} g q put wr mv = walks λ h a i. leads-part g q λ y z. record {
-  cur = sym (here-moved mv ∙ ap (λ (u : Walk). cursor n (u .script .names) (countsOf (u .counts))) (wr .is));
+  cur = sym (here-after wr mv);
   is = moved-to (wrote i (subst (λ (ys : List ℕ). Put (s .wrote) (numB kind ++ ys) o x o′) (spells-is (p .is t (here s) y _ z)) put) wr) mv;
 }
 

@@ -11,7 +11,8 @@ use Rattle.penne.specs.Tree.{Spot, Ident, Poison, Maybe, ok, err}
 use Rattle.penne.specs.Read.{place, ident}
 use Rattle.penne.specs.Write.{poisonB}
 use Rattle.penne.specs.Scopes.{Pass}
-pub use Rattle.penne.proofs.Leading.{never, same-value, same-cur}
+pub use Rattle.penne.proofs.Leading.{never, same-value, same-cur, bind-got}
+use Rattle.penne.proofs.Leading.{leads-deep as nothing-deep}
 use Rattle.fields.specs.declared.number.Read.{Read}
 use Rattle.fields.specs.declared.number.Read.the-variants.{Number, Refused}
 use Rattle.fields.specs.declared.field.Identifier.{Identifier}
@@ -36,14 +37,6 @@ never-unit e = never (sym e)
 -- what `_>>=_` makes of the first answer
 abbrev after : {A C : Type 0} → (C → Reader A) → List ℕ → Got C → Got A
 after f t q = elim q [ got y next ↦ f y t next | refused i p ↦ refused i p ]
-
-bind-go : {A C : Type 0} (f : C → Reader A) (t : List ℕ) (q : Got C) {x : A} {d : Cur} → after f t q ≡ got x d → (y : C) × (e : Cur) × (q ≡ got y e) × (f y t e ≡ got x d)
-bind-go f t (got y e) g = (y, e, refl, g)
-bind-go f t (refused i p) g = never g
-
-pub bind-got : {A C : Type 0} (m : Reader C) (f : C → Reader A) (t : List ℕ) (c : Cur) {x : A} {d : Cur} → (m >>= f) t c ≡ got x d → (y : C) × (e : Cur) × (m t c ≡ got y e) × (f y t e ≡ got x d)
-unfolding _>>=_
-bind-got m f t c g = bind-go f t (m t c) g
 
 pub bind-is : {A C : Type 0} (m : Reader C) (f : C → Reader A) (t : List ℕ) (c : Cur) {y : C} {e : Cur} → m t c ≡ got y e → (m >>= f) t c ≡ f y t e
 unfolding _>>=_
@@ -274,14 +267,9 @@ module _ {A : Type 0} {f : A → Ground → Ground} {fs : List A → Ground → 
 
 -- NODES
 
-deep-go : {A H : Type 0} (at : ℕ) (q : Got H) {x : A} {d : Cur} → _≡_ {A = Got A} (elim q [ got a next ↦ refused 7 at | refused i p ↦ refused i p ]) (got x d) → ⊥
-deep-go at (got a next) g = never g
-deep-go at (refused i p) g = never g
-
 -- a node too deep: nothing is promised
 pub leads-deep : {A H : Type 0} {P : A → Cur → Type 0} (h : Reader H) {t : List ℕ} {c : Cur} → Leads (tooDeep h) t c P
-unfolding tooDeep
-leads-deep h {t} {c} = record { to = λ x d g. absurd (deep-go (c .at) (h t c) g) }
+leads-deep {A} {P = P} h {t} {c} = record { to = λ x d g. nothing-deep {B = A} {X = P} h t c .to g }
 
 module _ {A : Type 0} {t : List ℕ} {P : A → Cur → Type 0} {H : Reader ℕ} {N : ℕ → Reader A} {K : ℕ → ℕ → Reader A} (how : Node H N K) where
   pub node-deep : (left : ℕ) {c : Cur} → left ≡ 0 → Leads (N left) t c P

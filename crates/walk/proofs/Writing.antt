@@ -23,8 +23,12 @@ pub here-moved : {s : Walk} {n : ℕ} {r : Walk} → Moves s n r → here r ≡ 
 here-moved m = ap here (m .is)
 
 -- where the walk is, once something is written and it moved on
+pub here-after : {s s₁ r : Walk} {n : ℕ} {x : Wrote} → Writes s x s₁ → Moves s₁ n r → here r ≡ cursor n (s .script .names) (countsOf (s .counts))
+here-after {n = n} wr mv = here-moved mv ∙ ap (λ (y : Walk). cursor n (y .script .names) (countsOf (y .counts))) (wr .is)
+
+-- the same, from where it was before that
 pub here-behind : (s : Walk) {s₁ s₂ r : Walk} {n : ℕ} {x : Wrote} → here s₁ ≡ here s → Writes s₁ x s₂ → Moves s₂ n r → cursor n (s .script .names) (countsOf (s .counts)) ≡ here r
-here-behind s {n = n} c wr mv = sym (here-moved mv ∙ ap (λ (y : Walk). cursor n (y .script .names) (countsOf (y .counts))) (wr .is) ∙ ap (λ (y : Cur). cursor n (y .names) (y .counts)) c)
+here-behind s {n = n} c wr mv = sym (here-after wr mv ∙ ap (λ (y : Cur). cursor n (y .names) (y .counts)) c)
 
 pub here-wrote : {s : Walk} {v : Wrote} {r : Walk} → Writes s v r → here r ≡ here s
 here-wrote m = ap here (m .is)
