@@ -4,7 +4,7 @@
  cfg: {need: template}; in a template `@thing.field.1` is the path `(c .before .. .thing .field .1)` to the thing of that name on the way of that need, `@pre` the entry.
       'inv', 'lmeasure' for a loop, 'unf' {need or '*': names} for `unfolding`. A need with no template is `search needs`; 'returns*' stands for every `returns` that has none.
  A need same-length* with no template is answered by the lengths that the calls on its way keep, where each of them takes the slice whole.
- What rattle prints is kept in cache/ until the words `fresh`; `paths` prints the way of each need."""
+ What rattle prints is kept in target/cache/ until the word `fresh`; `paths` prints the way of each need."""
 import re, sys, os, subprocess, shutil, pickle
 ns = {}; exec(open(sys.argv[1]).read(), ns)
 ROOT = os.path.abspath('.'); CRATE = ns['CRATE']; base = f'{ROOT}/crates/{CRATE}/proofs'; cache = f'{ROOT}/target/cache/{CRATE}'

@@ -26,7 +26,8 @@ enum {
 
 /* Scopes a tree. Values: the answer's length in bytes, the number of records in the list. A record is two words: the
  * offset of a use in the tree, and the offset of the declaration that a goto may skip. All that was lent is zero behind
- * these lengths, work memory as a whole; after a refusal all of it is. It may hold anything before. */
+ * these lengths, work memory as a whole; after a refusal answer, list and work memory are all zero. All may hold
+ * anything before. */
 void hurdlebraid_analyze(const uint8_t *tree, size_t tree_bytes, uint8_t *answer, size_t answer_bytes, uint32_t *list,
                          size_t list_words, uint32_t *work, size_t work_words, uint64_t *outcome,
                          size_t outcome_words);

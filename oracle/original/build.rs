@@ -13,8 +13,8 @@ const SOURCES: [&str; 6] = [
     "scoper/variable_references",
 ];
 
-/// Beside the checkout, seen from the oracle's folder.
-const BESIDE: &str = "../../shared/docs/src/src/alpha";
+/// A clone of the original beside the checkout, seen from the oracle's folder.
+const BESIDE: &str = "../../penne/src/alpha";
 
 fn main() {
     println!("cargo:rerun-if-env-changed=PENNE_SRC");

@@ -1,9 +1,11 @@
 # Wrong definitions, each of which the tables of crates/penne/proofs and crates/vectors/proofs have to refuse: file of specs/, what stands there, what is written instead.
-# Each is tried in a copy of the crate, which has the table of crates/vectors beside its own. At the root of the repository, about half a minute each:
+# Each is tried in a copy of the definitions that has these tables and no law beside them. At the root of the repository, about half a minute each:
 #   python3 tools/penne/mutants.py [NUMBER ..]
 import os, re, shutil, subprocess, sys, tempfile
 from vectors import inside
 CRATE = 'crates/penne'
+TABLES = ['Sheet', 'Vectors', 'Limits', 'Rooms']
+BESIDES = ['Reach', 'Checks', 'Run']  # what the tables compute with
 
 MUTANTS = [
     ('Labels', 'declareLabel i p (some j) = badStmt (poison 1 (i .name ∷ []) (j .place ∷ i .place ∷ []))',
@@ -180,12 +182,17 @@ def tried(top, file, old, new):
     open(path, 'w').write(text)
     said = r.stdout + r.stderr
     assert not re.search(r'specs/\w+\.antt:\d+:\d+: error', said), (file, new, said)
-    return sorted(set(re.findall(r'proofs/(\w+)\.antt:\d+:\d+: error', said))) if r.returncode else []
+    by = sorted(set(re.findall(r'proofs/(\w+)\.antt:\d+:\d+: error', said))) if r.returncode else []
+    assert set(by) <= set(TABLES), (file, new, by)
+    return by
 
 with tempfile.TemporaryDirectory() as top:
-    shutil.copytree(CRATE, os.path.join(top, CRATE))
-    with open(os.path.join(top, CRATE, 'proofs/Vectors.antt'), 'w') as f: f.write(inside(open('crates/vectors/proofs/Vectors.antt').read()))
-    with open(os.path.join(top, CRATE, 'proofs/Lib.antt'), 'a') as f: f.write('pub mod Vectors\n')
+    for part in ['src', 'specs']: shutil.copytree(os.path.join(CRATE, part), os.path.join(top, CRATE, part))
+    os.makedirs(os.path.join(top, CRATE, 'proofs'))
+    for name in BESIDES + TABLES:
+        at = [p for p in (CRATE, 'crates/vectors') if os.path.exists('%s/proofs/%s.antt' % (p, name))][0]
+        with open(os.path.join(top, CRATE, 'proofs/%s.antt' % name), 'w') as f: f.write(inside(open('%s/proofs/%s.antt' % (at, name)).read()))
+    with open(os.path.join(top, CRATE, 'proofs/Lib.antt'), 'w') as f: f.write(''.join('pub mod %s\n' % n for n in BESIDES + TABLES))
     open(os.path.join(top, 'crates.txt'), 'w').write('penne:\n')
     wanted, alive = [int(x) for x in sys.argv[1:]], []
     for n, (file, old, new) in enumerate(MUTANTS):

@@ -1,4 +1,4 @@
-# Trees with the answers of the original Rust, as tables of crates/penne/proofs: the definitions compute the same.
+# Trees with the answers of the original Rust, as tables of crates/vectors/proofs: the definitions compute the same.
 # tables.py writes those of the gate, many.py checks many more.
 import sys
 from collections import Counter

@@ -2,7 +2,7 @@
 ghost use mathlib.Core.List.{[]};
 ghost use Rattle.answer.specs.Out.{Put};
 
-// So many bytes, or more than there is room for: after that nothing is written any more.
+// So many bytes (of the list: words), or more than there is room for: after that nothing is written any more.
 pub enum Wrote {
     Bytes(usize),
     NoRoom,

@@ -8,6 +8,7 @@ use memory::layout::CONTAINER_NAME;
 use memory::layout::CONTAINER_PLACE;
 use memory::layout::CONTAINERS_WORDS;
 use memory::layout::EDGES;
+use memory::layout::SPARE;
 use memory::rows::add;
 use memory::rows::has;
 use memory::rows::join;
@@ -37,9 +38,6 @@ pub enum Contained {
     Poisoned,
     Cyclical,
 }
-
-// The row behind those of the containers.
-const SPARE: usize = 128;
 
 // A constant (kind 0) or a structure (kind 3), as declare_constant and declare_struct push it.
 pub fn push_container(table: &mut [u32], row: usize, kind: u32, declared: Declared)

@@ -1,8 +1,9 @@
-// determine_container_depths: rounds over the rows. A round at depth d resolves all that contain nothing any more, and takes them out of all others.
+// determine_container_depths: rounds over the rows. A round at depth d resolves all that contain nothing any more, which it marks in the spare row, and takes them out of all others.
 use memory::layout::CONTAINED;
 use memory::layout::CONTAINED_END;
 use memory::layout::CONTAINER_DEPTH;
 use memory::layout::CONTAINERS_WORDS;
+use memory::layout::SPARE;
 use memory::rows::add;
 use memory::rows::has;
 use memory::rows::is_empty;
@@ -10,9 +11,6 @@ use memory::rows::remove;
 use memory::words::set_word;
 use memory::words::word;
 ghost use Rattle.containers.specs.Depths.{Clears, Resolves, Marks, MarksAll, NoneMarked, IsMarked, ReleasesRows, Releases, DeepensMarked, DeepensIfMarked, PoisonsRest, PoisonsRow, Round, Rounds, Determines, TellsDepth};
-
-// The row behind those of the containers: here what the round resolves.
-const SPARE: usize = 128;
 
 // After the rounds, what has no depth is poisoned.
 pub fn determine_container_depths(table: &mut [u32], count: usize)

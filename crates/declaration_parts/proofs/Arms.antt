@@ -1,52 +1,40 @@
 -- A declaration along the decoder: by its kind, dropped, or begun.
 use mathlib.Core.Path.{_≡_, refl, sym, ap, subst, _∙_}
-use mathlib.Core.Bool.{Bool, true, false, _&&_}
-use mathlib.Core.List.{List, [], _∷_, _++_}
-use mathlib.Core.Option.{Option, none, some}
-use Prim.Native.Nat.{ℕ, _+_, _-_, _≤_, _<_}
+use mathlib.Core.Bool.{true}
+use mathlib.Core.List.{List, _++_}
+use Prim.Native.Nat.{ℕ, _+_, _-_, _<_}
 use native.Mathlib.Omega.{arith}
 use lib.Dec.{ltb}
-use lib.ListN.{length, getD, take}
+use lib.ListN.{getD}
 use borrow.Author.Tests.{ltb-true}
-use Rattle.penne.specs.Reader.{Counts, Cur, got, Reader, _>>=_, ret, num, below, plus, nothing, counted}
-use Rattle.penne.specs.Tree.{Spot, Ident, Poison, poison, Decl, constant, function, functionHead, structure}
-use Rattle.penne.specs.Read.{declOf, declKinds, kBadDecl, declCounts, declHead, readDecl, readConstant, readFunction, readFunctionHead, readStructure, poisonFields}
-use Rattle.penne.specs.Write.{numB, placeB, poisonB, declB}
-use Rattle.penne.specs.Find.{firstNamed, resolved}
-use Rattle.penne.specs.Containers.{constants, structures}
-use Rattle.penne.specs.State as S
-use Rattle.penne.specs.Scopes.{Analyzer, unlessDuplicate}
-use Rattle.penne.specs.Variables.{declaredAs, analyzeDecl}
+use Rattle.penne.specs.Reader.{Counts, Cur, got, num, below, plus, nothing, counted}
+use Rattle.penne.specs.Tree.{Spot, Decl}
+use Rattle.penne.specs.Read.{declOf, declKinds, kBadDecl, declCounts, declHead, readDecl, readConstant, readFunction, readFunctionHead, readStructure}
+use Rattle.penne.specs.Write.{numB, placeB}
 use Rattle.penne.proofs.IdsPass.{still-decl}
 use Rattle.fields.specs.declared.number.Read.the-variants.{Number}
 use Rattle.fields.specs.declared.counts.Counts as K
 use Rattle.fields.specs.declared.counts.Passed.{Passed}
 use Rattle.fields.specs.declared.counts.Passed.the-variants as Q
 use Rattle.fields.specs.declared.field.Identifier.{Identifier}
-use Rattle.fields.specs.Answers.{cursor, countsOf, identOf, numberOf, passedOf, Gives, Passes, poisonNames, poisonPlaces}
+use Rattle.fields.specs.Answers.{cursor, countsOf, numberOf, passedOf, Gives, Passes}
 use Rattle.tree.proofs.Statements as T
 use Rattle.answer.specs.declared.wrote.Wrote.{Wrote}
 use Rattle.answer.specs.Out.{Put}
 use Rattle.answer.specs.Parts.{renumbered}
 use Rattle.answer.proofs.Chain.{_▸_}
-use Rattle.containers.specs.Table.{kindOf}
-use Rattle.containers.specs.Calls.{ofKind}
 use Rattle.containers.proofs.Lists.{and-true}
 use Rattle.label_references.specs.Marked.{markedDecl}
 use Rattle.label_references.proofs.Leading.{passes-here}
 use Rattle.walk.specs.declared.state.Walk.{Walk}
 use Rattle.walk.specs.declared.fault.Fault.{Fault}
-use Rattle.walk.specs.Walking.{here, Moves, Writes, Counted, Rest, Ground, Good, Marks, Stands, Is, say, Did, Leads, Walks, faultB, duplicateFault, madeB}
-use Rattle.walk.proofs.Leading.{walks, such-got, unend-go, leads-refused, leads-bind, leads-got, leads-counting, is-same}
-use Rattle.walk.proofs.Writing.{here-moved, here-after, here-counted, moved, wrote}
+use Rattle.walk.specs.Walking.{here, Moves, Writes, Counted, Ground, Good, Marks, Leads, Walks, faultB, madeB}
+use Rattle.walk.proofs.Leading.{walks, such-got, unend-go, leads-refused, leads-counting}
+use Rattle.walk.proofs.Writing.{here-moved, here-after, moved, wrote}
 use Rattle.walk.proofs.Writing as W
-use Rattle.walk.proofs.Faults.{duplicate-bytes}
 use Rattle.stages.specs.declared.heads.Start.{Start}
-use Rattle.stages.specs.declared.before.Before.{Before}
-use Rattle.stages.specs.declared.before.Before.the-variants as B
-use Rattle.declaration_parts.specs.Declaring.{clear, fitContainer, fitFunction, fitDecl, predeclaredBy, behind, declWalk}
+use Rattle.declaration_parts.specs.Declaring.{fitDecl, predeclaredBy, behind, declWalk}
 use Rattle.stages.specs.Heads.{Begins, own}
-use Rattle.stages.specs.Before.{Refers, declared, undeclared, ContainerBefore, FunctionBefore, DeclaredBefore}
 use Rattle.declaration_parts.specs.Heading.{Heading, dropWalk, constantParts, functionParts, headParts, structureParts, Starts}
 use Rattle.stages.proofs.Parting.{four-kinds, leads-two, leads-one}
 use Rattle.stages.proofs.Sizing.{Passing, passing}

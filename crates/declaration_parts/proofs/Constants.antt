@@ -1,26 +1,23 @@
 -- A constant: its value and its type, with the constant in in_constexpr_of_constant in between.
 use mathlib.Core.Path.{_≡_, refl, sym, ap, subst, _∙_}
 use mathlib.Core.Bool.{true, false}
-use mathlib.Core.List.{List, [], _∷_, _++_, append-assoc}
+use mathlib.Core.List.{List, _++_, append-assoc}
 use mathlib.Core.Option.{Option, none, some}
-use Prim.Native.Nat.{ℕ, _+_, _≤_, _<_}
+use Prim.Native.Nat.{ℕ, _+_, _<_}
 use native.Mathlib.Omega.{arith}
-use lib.Dec.{ltb, eqb}
-use lib.ListN.{length, getD, take}
-use borrow.Author.Tests.{ltb-true, eqb-true}
-use Rattle.penne.specs.Reader.{Cur, got, _>>=_, ret}
+use lib.ListN.{length, take}
+use Rattle.penne.specs.Reader.{_>>=_, ret}
 use Rattle.penne.specs.Tree.{Spot, Ident, Maybe, Ty, expr, Expr, Decl, constant}
 use Rattle.penne.specs.Read.{maybe, read, readTy}
 use Rattle.penne.specs.Write.{numB, placeB, identB, nodeB, maybeB, tyB, declB}
 use Rattle.penne.specs.Find.{firstNamed, resolved}
-use Rattle.penne.specs.Containers.{Container, idOf, constants}
+use Rattle.penne.specs.Containers.{idOf}
 use Rattle.penne.specs.State as S
 use Rattle.penne.specs.Scopes.{Analyzer, withContainment, unlessDuplicate}
-use Rattle.penne.specs.Variables.{declaredAs, analyzeNode, analyzeMaybeType, foundMaybe, inConstexprOf, analyzeConstexpr, analyzeDecl}
+use Rattle.penne.specs.Variables.{declaredAs, analyzeNode, inConstexprOf, analyzeConstexpr, analyzeDecl}
 use Rattle.penne.proofs.IdsPass.{still-node}
 use Rattle.penne.proofs.Booleans.{both-true}
 use Rattle.fields.specs.declared.field.Identifier.{Identifier}
-use Rattle.fields.specs.Answers.{cursor, countsOf, identOf}
 use Rattle.answer.specs.Parts.{renumbered, identifierB, resolvedTo}
 use Rattle.containers.specs.declared.containers.Declared.{Declared}
 use Rattle.containers.specs.Table.{at, idAt}
@@ -28,18 +25,17 @@ use Rattle.containers.specs.Calls.{ofKind}
 use Rattle.containers.proofs.Lists.{and-true}
 use Rattle.label_references.specs.Marked.{markedDecl}
 use Rattle.walk.specs.declared.state.Walk.{Walk}
-use Rattle.walk.specs.declared.edges.Holder.{Holder}
-use Rattle.walk.specs.Walking.{here, Whose, nobody, somebody, Rest, Ground, Good, Is, onward, say, Did, Leads, Walks, Constexpr, within, madeB}
-use Rattle.walk.specs.Calls.{ContainerAt, Member, no-member}
+use Rattle.walk.specs.Walking.{nobody, somebody, Rest, Ground, Good, onward, say, Walks, Constexpr, within, madeB}
+use Rattle.walk.specs.Calls.{ContainerAt, no-member}
 use Rattle.walk.proofs.Leading.{leads-bind, leads-call, leads-got, is-same, leads-at}
 use Rattle.types.specs.Typing.{Contains, analyzeContained}
 use Rattle.stages.specs.declared.heads.Start.{Start}
 use Rattle.stages.specs.Heads.{rowsOf}
-use Rattle.declaration_parts.specs.Declaring.{sameIdent, clear, fitContainer, fitDecl, predeclaredBy, behind, declWalk}
+use Rattle.declaration_parts.specs.Declaring.{clear, fitContainer, fitDecl, predeclaredBy, behind, declWalk}
 use Rattle.stages.specs.Heads.{own}
 use Rattle.declaration_parts.specs.Heading.{counting, begunContainer, NewContainer, Arm, constantParts, Starts}
 use Rattle.declaration_parts.proofs.Rowing.{rowed-node}
-use Rattle.declaration_parts.proofs.Fitting.{same-ident, Clear, clear-is}
+use Rattle.declaration_parts.proofs.Fitting.{clear-is}
 use Rattle.declaration_parts.proofs.Fitting.{Row, row-is}
 use Rattle.declaration_parts.proofs.Arms.{good-decl}
 

@@ -1,23 +1,22 @@
 -- The depths that the definition gives the declarations, by the rows of the containers.
-use Prim.Native.Nat.{ℕ, zero, suc, _+_, _≤_, _<_}
+use Prim.Native.Nat.{ℕ, zero, suc, _+_}
 use mathlib.Core.Path.{_≡_, refl, sym, ap, subst, _∙_}
-use mathlib.Core.Bool.{Bool, true, false}
-use mathlib.Core.List.{List, [], _∷_, _++_, map, append-nil}
+use mathlib.Core.Bool.{true, false}
+use mathlib.Core.List.{List, [], _∷_, map, append-nil}
 use mathlib.Core.Option.{Option, none, some}
 use native.Mathlib.Omega.{arith}
-use lib.ListN.{length, take, length-append}
+use lib.ListN.{length, length-append}
 use Rattle.penne.specs.Tree.{Spot, Ident, Poison, Maybe, ok, err, Ty, Expr, Param, Body, Decl, constant, function, functionHead, structure, import, badDecl}
 use Rattle.penne.specs.Find.{firstNamed, keep, resolved}
 use Rattle.penne.specs.State as S
-use Rattle.penne.specs.Labels.{Labels, labelsBody, labelsDecl, labelsDecls, labelReferences}
+use Rattle.penne.specs.Labels.{Labels, labelsDecl, labelsDecls, labelReferences}
 use Rattle.penne.specs.Containers.{Container, constants, structures, idOf, pushContainer, withContainers, resolves, settled, rounds, orPoisoned, determineContainerDepths, obtainContainerDepth}
-use Rattle.penne.specs.Scopes.{Analyzer, Pass, authoritative, unlessDuplicate, nextId, withStack, withContainment, withFunctions, declareConstant, declareFunction, declareStruct, useFunction, begin}
+use Rattle.penne.specs.Scopes.{Analyzer, authoritative, unlessDuplicate, nextId, withStack, withContainment, withFunctions, declareConstant, declareFunction, declareStruct, begin}
 use Rattle.penne.specs.Variables.{declaredAs, predeclare, analyzeDecl, functionOf, functionHeadOf, inTurn, analyzeAll, depthOf}
 use Rattle.penne.specs.Scoper.{analyze}
-use Rattle.containers.specs.Table.{at}
 use Rattle.containers.specs.Calls.{ofKind}
 use Rattle.stages.specs.Heads.{rowsOf}
-use Rattle.stages.specs.Stages.{unlessFound, rowDepth, RowOf, depthIn, Rowed, of-constant, of-function, of-head, of-structure, of-import, of-poison, depthsIn, AllRowed, all-none, all-more}
+use Rattle.stages.specs.Stages.{unlessFound, rowDepth, depthIn, Rowed, of-constant, of-function, of-head, of-structure, of-import, of-poison, depthsIn, AllRowed, all-none, all-more}
 use Rattle.penne.proofs.IdsPass.{face}
 use Rattle.declaration_parts.proofs.Wholly.{Face, Row, row, faces-push, Begun, begun-all, nth-whole}
 

@@ -1,9 +1,9 @@
 -- A declaration whose name was declared before is answered by its poison alone.
 use mathlib.Core.Path.{_≡_, refl, sym, ap, subst, _∙_}
-use mathlib.Core.Bool.{Bool, true, false, _&&_}
+use mathlib.Core.Bool.{Bool, true, false}
 use mathlib.Core.List.{List, [], _∷_, _++_}
 use mathlib.Core.Option.{Option, none, some}
-use Prim.Native.Nat.{ℕ, _≤_, _<_}
+use Prim.Native.Nat.{ℕ, _<_}
 use native.Mathlib.Omega.{arith}
 use lib.Dec.{ltb}
 use lib.ListN.{length, getD, take}
@@ -12,7 +12,6 @@ use Rattle.penne.specs.Tree.{Spot, Ident, Poison, poison, Maybe, Ty, Expr, Para
 use Rattle.penne.specs.Read.{readDecl, poisonFields}
 use Rattle.penne.specs.Write.{numB, poisonB, declB}
 use Rattle.penne.specs.Find.{firstNamed, resolved}
-use Rattle.penne.specs.Containers.{constants, structures}
 use Rattle.penne.specs.State as S
 use Rattle.penne.specs.Scopes.{Analyzer, unlessDuplicate}
 use Rattle.penne.specs.Variables.{declaredAs, analyzeDecl}
@@ -22,13 +21,12 @@ use Rattle.containers.specs.Table.{idAt, kindOf}
 use Rattle.containers.specs.Calls.{ofKind}
 use Rattle.containers.specs.Functions.{functionAt}
 use Rattle.containers.proofs.Lists.{and-true}
-use Rattle.label_references.specs.Marked.{markedBody, markedDecl}
+use Rattle.label_references.specs.Marked.{markedDecl}
 use Rattle.walk.specs.declared.state.Walk.{Walk}
 use Rattle.walk.specs.declared.fault.Fault.{Fault}
 use Rattle.walk.specs.Walking.{here, Rest, Ground, Good, Is, Leads, Walks, faultB, duplicateFault}
 use Rattle.walk.proofs.Leading.{walks, leads-bind, leads-got, is-same}
 use Rattle.walk.proofs.Faults.{duplicate-bytes}
-use Rattle.statement_parts.specs.Stating.{fitsBody}
 use Rattle.stages.specs.declared.heads.Start.{Start}
 use Rattle.stages.specs.declared.before.Before.{Before}
 use Rattle.stages.specs.declared.before.Before.the-variants as B

@@ -1,12 +1,12 @@
 -- A declaration is analysed in no constant's value, and leaves it so.
-use mathlib.Core.Path.{_≡_, refl, sym, ap, _∙_}
-use mathlib.Core.Bool.{Bool, true}
+use mathlib.Core.Path.{_≡_, refl, _∙_}
+use mathlib.Core.Bool.{true}
 use mathlib.Core.List.{List, [], _∷_}
 use mathlib.Core.Option.{Option, none, some}
 use Prim.Native.Nat.{ℕ}
 use Rattle.penne.specs.Tree.{Spot, Ident, Maybe, ok, err, Ty, plain, array, arrayWithNamedLength, arraylike, struct, word, unresolved, nameless, pointer, view, Param, Body, Expr, Decl, constant, function, functionHead, structure, import, badDecl}
 use Rattle.penne.specs.State as S
-use Rattle.penne.specs.Containers.{Containment, foundContainer1, foundContainer}
+use Rattle.penne.specs.Containers.{Containment, foundContainer}
 use Rattle.penne.specs.Scopes.{Analyzer, Pass}
 use Rattle.penne.specs.Scopes as Q
 use Rattle.penne.specs.Variables as V′

@@ -1,10 +1,10 @@
 -- An import: its bytes and its place, as they came.
-use mathlib.Core.Path.{_≡_, refl, sym, ap, subst, _∙_}
+use mathlib.Core.Path.{_≡_, sym, ap, _∙_}
 use mathlib.Core.List.{List, _++_, append-assoc}
 use Prim.Native.Nat.{ℕ}
-use Rattle.penne.specs.Reader.{Counts, Cur, got, _>>=_, ret, num, raw, bytes}
-use Rattle.penne.specs.Tree.{Spot, Decl, import}
-use Rattle.penne.specs.Read.{place, readImport}
+use Rattle.penne.specs.Reader.{Cur, got, num, raw, bytes}
+use Rattle.penne.specs.Tree.{Spot, import}
+use Rattle.penne.specs.Read.{readImport}
 use Rattle.penne.specs.Write.{numB, placeB, bytesB, declB}
 use Rattle.fields.specs.declared.number.Read.{Read}
 use Rattle.fields.specs.declared.number.Read.the-variants.{Number, Refused}
@@ -15,7 +15,7 @@ use Rattle.answer.specs.Out.{Put}
 use Rattle.answer.specs.Parts.{renumbered, part}
 use Rattle.answer.proofs.Chain.{_▸_}
 use Rattle.walk.specs.declared.state.Walk.{Walk}
-use Rattle.walk.specs.Walking.{here, Moves, Writes, Ground, say, Did, Leads, Walks}
+use Rattle.walk.specs.Walking.{here, Moves, Writes, Ground, say, Walks}
 use Rattle.walk.proofs.Leading.{never, same-value, same-cur, bind-got, unend-go, walks, leads-bind, leads-place, leads-unplace, leads-got, is-same, leads-at}
 use Rattle.walk.proofs.Writing.{here-after, moved, wrote}
 use Rattle.expression_parts.proofs.ByKind.{bytes-is}

@@ -1,16 +1,14 @@
 -- Whatever is analysed, the rows of the containers keep their identifiers.
-use Prim.Native.Nat.{ℕ, zero, suc, _<_}
+use Prim.Native.Nat.{ℕ, zero, suc}
 use native.Mathlib.Omega.{arith}
-use mathlib.Core.Path.{_≡_, refl, _∙_, ap}
+use mathlib.Core.Path.{refl, _∙_}
 use mathlib.Core.Option.{Option, none, some}
-use lib.ListN.{length}
 use Rattle.penne.specs.Tree.{Spot, Kind, Ident, Maybe, ok, err, Ty, plain, array, arrayWithNamedLength, arraylike, struct, word, unresolved, nameless, pointer, view, Sort, Node, nil, cons, binary, unary, boolean, signed, bits, string, arrayLiteral, structural, parenthesized, deref, bitCast, typeCast, lengthOfArray, sizeOf, functionCall, badExpr, reference, element, member, memberExpression}
 use Rattle.penne.specs.State as S
 use Rattle.penne.specs.Pruning.{Fate, pruned, poisoned, standing}
 use Rattle.penne.specs.Scopes.{Analyzer, Pass}
 use Rattle.penne.specs.Scopes as Q
 use Rattle.penne.specs.Variables as V′
-use Rattle.containers.specs.Table.{at}
 use Rattle.containers.proofs.Starting.{Kept, found-kept}
 
 -- b has the rows of a

@@ -1,7 +1,5 @@
 -- The walk over all declarations.
-use mathlib.Core.Path.{_≡_, refl}
-use mathlib.Core.List.{List, [], _∷_}
-use Rattle.penne.specs.Tree.{Spot, Decl}
+use mathlib.Core.Path.{refl}
 use Rattle.walk.proofs.Leading.{Listed}
 use Rattle.declaration_parts.specs.Declaring.{declWalk, declsWalk}
 

@@ -1,11 +1,9 @@
 -- The words that the label pass leaves fit the declarations whose statements they are of.
 use mathlib.Core.Path.{_≡_, refl, sym, ap, subst, _∙_}
-use mathlib.Core.Bool.{Bool, true, false, _&&_}
+use mathlib.Core.Bool.{Bool, true, _&&_}
 use mathlib.Core.List.{List, [], _∷_, _++_, append-nil, append-assoc}
-use Prim.Native.Nat.{ℕ, _+_, _≤_}
-use native.Mathlib.Omega.{arith}
-use lib.ListN.{length}
-use Rattle.penne.specs.Tree.{Spot, Ident, stmts, Stm, Maybe, ok, err, Body, Decl, constant, function, functionHead, structure, import, badDecl}
+use Prim.Native.Nat.{ℕ}
+use Rattle.penne.specs.Tree.{Spot, Ident, stmts, Stm, ok, err, Decl, constant, function, functionHead, structure, import, badDecl}
 use Rattle.penne.specs.Labels.{Labels, popScope, labelsBody, labelsDecl}
 use Rattle.tree.specs.declared.script.Layout.{Layout}
 use Rattle.tree.specs.Script.{LaidOut}
@@ -16,7 +14,7 @@ use Rattle.label_references.specs.Marked.{markedBody, markedDecl, Known, none-k
 use Rattle.label_references.proofs.Marking.{marks}
 use Rattle.label_references.proofs.Growing.{labels-few}
 use Rattle.statement_parts.specs.Stating.{fitsBody}
-use Rattle.statement_parts.proofs.Fitting.{Sits, Split, split, numbered-along, fits-body, sits-all}
+use Rattle.statement_parts.proofs.Fitting.{Sits, split, numbered-along, fits-body, sits-all}
 
 -- the words of a declaration's statements fit them
 unfoldable pub fitsWords : List (Ident Spot) → Decl Spot → List ℕ → Bool

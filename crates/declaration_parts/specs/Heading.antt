@@ -23,7 +23,7 @@ use Rattle.walk.specs.declared.state.Walk.{Walk}
 use Rattle.walk.specs.declared.fault.Fault.{Fault}
 use Rattle.walk.specs.Walking.{here, Rest, Ground, Good, Is, say, Did, Leads, Walks, Input, faultB, madeB}
 use Rattle.stages.specs.declared.heads.Start.{Start}
-use Rattle.stages.specs.Heads.{Begins, named}
+use Rattle.stages.specs.Heads.{Begins}
 use Rattle.stages.specs.declared.before.Before.the-variants as B
 use Rattle.stages.specs.Before.{DeclaredBefore}
 use Rattle.declaration_parts.specs.Declaring.{clear, fitContainer, fitFunction, fitDecl, behind, declWalk}

@@ -1,11 +1,11 @@
 -- Parameters and members along the decoder: the place, the name, the type; one after another.
 use mathlib.Core.Path.{_≡_, refl, sym, ap, subst, _∙_}
 use mathlib.Core.Bool.{true}
-use mathlib.Core.List.{List, [], _∷_, _++_, append-assoc, append-nil}
-use Prim.Native.Nat.{ℕ, zero, suc, _+_, _-_, _≤_, _<_}
+use mathlib.Core.List.{List, _++_, append-assoc}
+use Prim.Native.Nat.{ℕ, _+_, _≤_, _<_}
 use native.Mathlib.Omega.{arith}
 use lib.ListN.{length, getD}
-use Rattle.penne.specs.Reader.{Counts, Cur, got, Reader, _>>=_, ret, num, below, plus, fits, anEntry, counting, counted}
+use Rattle.penne.specs.Reader.{Counts, Cur, got, Reader, _>>=_, ret, num, below, plus, fits, anEntry, counted}
 use Rattle.penne.specs.Tree.{Spot, Ident, Poison, Maybe, ok, err}
 use Rattle.penne.specs.Read.{place, ident, maybe, readPoison}
 use Rattle.penne.specs.Write.{numB, placeB, poisonB, identB, maybeB}

@@ -2,22 +2,22 @@
 use mathlib.Core.Path.{_≡_, refl, sym, ap, subst, _∙_}
 use mathlib.Core.Bool.{Bool, true, false}
 use mathlib.Core.List.{List, [], _∷_, _++_, append-assoc, append-nil, flatMap}
-use mathlib.Core.Option.{Option, none, some}
+use mathlib.Core.Option.{some}
 use Prim.Native.Nat.{ℕ, zero, suc, _-_, _≤_, _<_}
 use native.Mathlib.Omega.{arith}
 use lib.ListN.{length}
 use Rattle.penne.specs.Reader.{Cur, got, Reader, _>>=_, ret, num, many, listed, anEntry, counting}
-use Rattle.penne.specs.Tree.{Spot, Ident, Poison, Maybe, ok, err, Ty, Param}
+use Rattle.penne.specs.Tree.{Spot, Ident, Maybe, ok, err, Ty, Param}
 use Rattle.penne.specs.Read.{place, ident, maybe, readTy, readParam, poisonFields}
 use Rattle.penne.specs.Write.{numB, placeB, identB, tyB, maybeB, listB, paramB}
 use Rattle.penne.specs.State as S
 use Rattle.penne.specs.Containers.{Container}
 use Rattle.penne.specs.Scopes.{Analyzer, Pass}
-use Rattle.penne.specs.Variables.{analyzeMaybeType, declareMaybe, inTurn, analyzeParam, foundMaybe, analyzeWellfoundedness, analyzeMember}
+use Rattle.penne.specs.Variables.{analyzeMaybeType, declareMaybe, inTurn, analyzeParam, analyzeWellfoundedness, analyzeMember}
 use Rattle.penne.proofs.IdsPass.{still-maybe, still-found, grown-declare}
 use Rattle.fields.specs.declared.number.Read.{Read}
 use Rattle.fields.specs.declared.number.Read.the-variants.{Number, Refused}
-use Rattle.fields.specs.Answers.{cursor, countsOf, Gives, poisonNames, poisonPlaces}
+use Rattle.fields.specs.Answers.{Gives, poisonNames, poisonPlaces}
 use Rattle.fields.proofs.Chain.{reads}
 use Rattle.fields.proofs.Back.{many-length}
 use Rattle.answer.specs.declared.wrote.Wrote.{Wrote}
@@ -36,7 +36,7 @@ use Rattle.walk.proofs.Writing.{here-after, moved, wrote}
 use Rattle.types.specs.Typing.{analyzeContained, Contains}
 use Rattle.entries.specs.declared.Entry.{Entry}
 use Rattle.entries.specs.declared.Entry.the-variants as E
-use Rattle.entries.specs.Entering.{Outside, InStructure, Under, paramWalk, paramsWalk, memberWalk, membersWalk, analyzeHeld, TypesMember, walkOf, Names, named, nameless, Entered, placeAndName, placedB, NamesEntry}
+use Rattle.entries.specs.Entering.{Outside, InStructure, Under, paramWalk, memberWalk, analyzeHeld, TypesMember, walkOf, Names, named, nameless, placeAndName, placedB, NamesEntry}
 use Rattle.entries.proofs.Staying.{inside-name, outside-param, inside-member}
 
 -- PLACE AND NAME, AND THEN THE REST

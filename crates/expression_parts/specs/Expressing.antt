@@ -48,7 +48,7 @@ arrayNumber n a = onward (λ (_ : ℕ). createAnonymousResolutionId) numB n a
 abbrev pub refusing : {A : Type 0} → (kind : ℕ) → Fault → A → Ground → Ground
 refusing kind f x a = say (numB kind ++ faultB f) a
 
--- "Maybe identifier", as the name was looked up or declared
+-- "Maybe identifier", as the name was looked up
 unfoldable pub usedB : Used → List ℕ
 usedB (As i) = numB 0 ++ madeB i
 usedB (Not f) = numB 1 ++ faultB f

@@ -162,7 +162,7 @@ pub fn base(tree: &[u8], answer: &mut [u8], list: &mut [u32], work: &mut [u32], 
     written(answer, used, b)
 }
 
-// "Maybe identifier", as the name was looked up or declared; `at` is behind it.
+// "Maybe identifier", as the name was looked up; `at` is behind it.
 pub fn written(answer: &mut [u8], named: Named, at: usize) -> Walk
     ensures { λ r. ⌜ Written named at (now (answer .entry)) r (now (answer .exit)) ⌝ }
 {

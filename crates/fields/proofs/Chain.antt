@@ -1,15 +1,13 @@
 -- How a reader that keeps no tree goes along with the definition that makes one: a law for each way on and each way out.
 use mathlib.Core.Path.{_≡_, refl, sym, ap, subst, _∙_}
 use mathlib.Core.Bool.{Bool, true, false}
-use mathlib.Core.List.{List, [], _∷_}
-use Prim.Native.Nat.{ℕ, zero, suc, _+_, _-_, _≤_, _<_}
+use mathlib.Core.List.{List, _∷_}
+use Prim.Native.Nat.{ℕ, zero, suc, _-_}
 use native.Mathlib.Omega.{arith}
-use lib.Dec.{ltb}
-use mathlib.Core.Option.{Option, none, some}
-use borrow.Author.Tests.{lt-ltb, le-ltb}
-use Rattle.penne.specs.Reader.{Counts, Cur, Got, got, refused, Reader, _>>=_, ret, num, below, such, many, listed, tooDeep}
-use Rattle.penne.specs.Tree.{Spot, Maybe, ok, err}
-use Rattle.penne.specs.Read.{place, name, either, maybe, option, readPoison}
+use mathlib.Core.Option.{some}
+use Rattle.penne.specs.Reader.{Counts, Cur, Got, got, refused, Reader, _>>=_, ret, num, below, such, many, tooDeep}
+use Rattle.penne.specs.Tree.{Spot, ok, err}
+use Rattle.penne.specs.Read.{place, either, maybe, option, readPoison}
 use Rattle.fields.specs.declared.number.Read.{Read}
 use Rattle.fields.specs.declared.number.Read.the-variants.{Number, Refused}
 use Rattle.fields.specs.Answers.{cursor, numberOf, endOf, forget, Gives, Reads, Ends, Skips, twoPlaces, operator}

@@ -1,16 +1,16 @@
 -- What row 8 counts, and the chain of readers that count.
 use mathlib.Core.Path.{_≡_, refl, sym, ap, subst, _∙_}
 use mathlib.Core.Bool.{Bool, true, false, _&&_, not}
-use mathlib.Core.List.{List, [], _∷_}
+use mathlib.Core.List.{List, _∷_}
 use mathlib.Core.Option.{Option, none, some}
-use Prim.Native.Nat.{ℕ, zero, suc, _+_, _-_, _^_, _≤_, _<_}
+use Prim.Native.Nat.{ℕ, zero, suc, _+_, _-_, _^_, _<_}
 use native.Mathlib.Omega.{arith}
-use lib.Dec.{leb, eqb}
+use lib.Dec.{leb}
 use lib.ListN.{getD}
-use borrow.Author.Tests.{leb-true, leb-false, not-false}
-use Rattle.penne.specs.Reader.{Counts, Cur, Got, got, refused, Reader, _>>=_, ret, num, below, such, many, plus, fits, counted, counting, aStatement, nothing}
-use Rattle.penne.specs.Tree.{Spot, ok, err}
-use Rattle.penne.specs.Read.{place, either, maybe, readPoison, stmtCounts, stmtKinds, kBadStmt, declCounts, declKinds, kBadDecl}
+use borrow.Author.Tests.{leb-true, not-false}
+use Rattle.penne.specs.Reader.{Counts, Cur, Got, got, refused, Reader, _>>=_, ret, num, below, many, plus, fits, counted, counting, aStatement, nothing}
+use Rattle.penne.specs.Tree.{Spot}
+use Rattle.penne.specs.Read.{place, either, stmtCounts, stmtKinds, kBadStmt, declCounts, declKinds, kBadDecl}
 use Rattle.fields.specs.declared.number.Read.{Read}
 use Rattle.fields.specs.declared.number.Read.the-variants.{Number, Refused}
 use Rattle.fields.specs.declared.counts.Counts as C

@@ -2,22 +2,21 @@
 use mathlib.Core.Path.{_≡_, refl, sym, ap, subst, _∙_}
 use mathlib.Core.List.{List, [], _∷_, _++_, map}
 use Prim.Native.Nat.{ℕ, zero, suc, _+_, _≤_, _<_}
-use native.Mathlib.Omega.{arith}
 use native.Mathlib.Nat.{not-suc-le-zero, le-of-suc-le-suc}
 use mathlib.Core.Bool.{true, false}
 use lib.Dec.{eqb}
 use lib.ListN.{length, getD}
 use borrow.Author.Tests.{lt-ltb, le-ltb, le-leb, lt-leb, eq-eqb, ne-eqb, eqb-true, eqb-false}
 use Rattle.penne.specs.Reader.{Counts, Cur, Got, got, refused, Reader, _>>=_, ret, num, below, raw, bytes, many, moved, nothing}
-use Rattle.penne.specs.Tree.{Spot, Ident, Poison, earlier, poison}
-use Rattle.penne.specs.Read.{name, place, ident, poisonFields, poisonOf, readPoison}
+use Rattle.penne.specs.Tree.{Spot, Poison, earlier, poison}
+use Rattle.penne.specs.Read.{name, place, ident, poisonFields, poisonOf}
 use Rattle.fields.specs.declared.number.Read.{Read}
 use Rattle.fields.specs.declared.number.Read.the-variants.{Number, Refused}
 use Rattle.fields.specs.declared.field.Identifier.{Identifier}
 use Rattle.fields.specs.declared.field.Identified.{Identified}
 use Rattle.fields.specs.declared.field.Identified.the-variants.{Is, Not}
-use Rattle.fields.specs.Answers.{cursor, numberOf, endOf, forget, Gives, Reads, Ends, Skips, identOf, identifiedOf, Identifies, unidentifiedBy, poisonNames, poisonPlaces}
-use Rattle.fields.proofs.Chain.{test-halt, test-passed, test-failed, reads, ends-number, ends-place, ends-ret, ends-call, ends-halt, ends-tail, ends-read, ends-same, here, never′, read-go}
+use Rattle.fields.specs.Answers.{cursor, numberOf, endOf, forget, Gives, Reads, Ends, Skips, identifiedOf, Identifies, unidentifiedBy, poisonNames, poisonPlaces}
+use Rattle.fields.proofs.Chain.{test-halt, test-passed, test-failed, reads, ends-number, ends-call, ends-halt, ends-tail, ends-read, ends-same, here, never′, read-go}
 
 -- A NAME
 

@@ -8,7 +8,7 @@ use borrow.Author.Tests.{lt-ltb, le-ltb, eq-eqb, ne-eqb}
 use mathlib.Core.Path.{_≡_, refl, sym, ap, subst, _∙_}
 use mathlib.Core.Bool.{Bool, true, false}
 use mathlib.Core.List.{List}
-use Rattle.penne.specs.Reader.{Counts, Cur, Got, got, refused, Reader, num, groups, lastGroup, below, such, moved}
+use Rattle.penne.specs.Reader.{Cur, got, refused, Reader, num, groups, lastGroup, below, such, moved}
 use Rattle.fields.specs.declared.number.Read.{Read}
 use Rattle.fields.specs.declared.number.Read.the-variants.{Number, Refused}
 use Rattle.fields.specs.Answers.{cursor, numberOf, Gives, Last}

@@ -3,12 +3,12 @@ use Prim.Native.Nat.{ℕ, zero, suc, _+_, _≤_, _<_}
 use native.Mathlib.Omega.{arith}
 use mathlib.Core.Path.{_≡_, refl, sym, ap, _∙_}
 use mathlib.Core.Bool.{Bool, true, false}
-use mathlib.Core.List.{List, [], _∷_, _++_}
+use mathlib.Core.List.{List, _++_}
 use lib.Dec.{ltb}
-use lib.ListN.{length, getD, take, set, length-set, replicate, length-append, length-replicate}
+use lib.ListN.{length, getD, set, length-set, replicate, length-append, length-replicate}
 use lib.Seq.{getD-take, length-take-le, getD-set-same, getD-set-other, ext-getD}
 use borrow.Author.Tests.{ltb-true, ltb-false, lt-ltb, le-ltb}
-use Rattle.penne.specs.Scoper.{Asked, told, untold, Outcome}
+use Rattle.penne.specs.Scoper.{Asked, Outcome, getContainerDepth, isContainer}
 use Rattle.scoper.specs.declared.Scoped.{Scoped}
 use Rattle.scoper.specs.declared.Scoped.the-variants as S
 use Rattle.scoper.specs.Scoping.{outcomeOf, Scopes}
@@ -19,7 +19,8 @@ use Rattle.readers.specs.declared.Named.{Named}
 use Rattle.readers.specs.declared.Named.the-variants as N
 use Rattle.readers.specs.Asking.{depthAsked}
 use Rattle.readers.specs.Naming.{nameAsked}
-use Rattle.hurdlebraid.specs.Telling.{Told, theWords, wordOf, toldWords, scopedTold, Analyzes, depthTold, nameTold}
+use Rattle.hurdlebraid.specs.Telling.{Told, theWords, wordOf, toldWords, scopedTold, Analyzes, depthAndKind, nameTold}
+use Rattle.hurdlebraid.proofs.Depths.{depthTold, tells-depth-and-kind}
 
 -- WORD BY WORD
 
@@ -81,18 +82,18 @@ telling-done {t} {i} {u₀} {u} g h = ext-getD 0 u (toldWords (length u₀) t) (
 
 -- THE CALLS
 
-module _ (max : ℕ) {a : Asked ℕ} {r : Depth} (e : depthAsked r ≡ a) where
-  pub tells-depth : {d : ℕ} → r ≡ D.Is d → d < 4294967295 → record { number = 0; place = 0; first = d; second = 1 } ≡ depthTold max a
+module _ (s : List ℕ) (k max : ℕ) {r : Depth} (e : depthAsked r ≡ getContainerDepth s k 4294967295) where
+  pub tells-depth : {d : ℕ} → r ≡ D.Is d → d < 4294967295 → record { number = 0; place = 0; first = d; second = 1 } ≡ depthAndKind (getContainerDepth s k max) (isContainer s k)
   unfolding depthAsked depthTold
-  tells-depth {d} f h = ap (λ (b : Bool). elim b [ true ↦ record { number = 0; place = 0; first = d; second = 1 } | false ↦ record { number = 0; place = 0; first = max; second = 0 } ]) (sym (lt-ltb d 4294967295 h)) ∙ ap (depthTold max) (sym (ap depthAsked f)) ∙ ap (depthTold max) e
+  tells-depth {d} f h = ap (λ (b : Bool). elim b [ true ↦ record { number = 0; place = 0; first = d; second = 1 } | false ↦ record { number = 0; place = 0; first = max; second = 0 } ]) (sym (lt-ltb d 4294967295 h)) ∙ ap (depthTold max) (sym (ap depthAsked f)) ∙ ap (depthTold max) e ∙ tells-depth-and-kind s k max
 
-  pub tells-max : {d : ℕ} → r ≡ D.Is d → 4294967295 ≤ d → record { number = 0; place = 0; first = max; second = 0 } ≡ depthTold max a
+  pub tells-max : {d : ℕ} → r ≡ D.Is d → 4294967295 ≤ d → record { number = 0; place = 0; first = max; second = 0 } ≡ depthAndKind (getContainerDepth s k max) (isContainer s k)
   unfolding depthAsked depthTold
-  tells-max {d} f h = ap (λ (b : Bool). elim b [ true ↦ record { number = 0; place = 0; first = d; second = 1 } | false ↦ record { number = 0; place = 0; first = max; second = 0 } ]) (sym (le-ltb d 4294967295 h)) ∙ ap (depthTold max) (sym (ap depthAsked f)) ∙ ap (depthTold max) e
+  tells-max {d} f h = ap (λ (b : Bool). elim b [ true ↦ record { number = 0; place = 0; first = d; second = 1 } | false ↦ record { number = 0; place = 0; first = max; second = 0 } ]) (sym (le-ltb d 4294967295 h)) ∙ ap (depthTold max) (sym (ap depthAsked f)) ∙ ap (depthTold max) e ∙ tells-depth-and-kind s k max
 
-  pub tells-undepth : {n p : ℕ} → r ≡ D.Refused n p → record { number = n; place = p; first = 0; second = 0 } ≡ depthTold max a
+  pub tells-undepth : {n p : ℕ} → r ≡ D.Refused n p → record { number = n; place = p; first = 0; second = 0 } ≡ depthAndKind (getContainerDepth s k max) (isContainer s k)
   unfolding depthAsked depthTold
-  tells-undepth f = ap (depthTold max) (sym (ap depthAsked f)) ∙ ap (depthTold max) e
+  tells-undepth f = ap (depthTold max) (sym (ap depthAsked f)) ∙ ap (depthTold max) e ∙ tells-depth-and-kind s k max
 
 module _ {a : Asked (ℕ × ℕ)} {r : Named} (e : nameAsked r ≡ a) where
   pub tells-name : {from n : ℕ} → r ≡ N.At from n → record { number = 0; place = 0; first = from; second = n } ≡ nameTold a

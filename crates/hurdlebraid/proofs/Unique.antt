@@ -3,8 +3,8 @@ use Prim.Native.Nat.{ℕ}
 use mathlib.Core.Path.{_≡_, refl, sym, ap, _∙_}
 use mathlib.Core.List.{List}
 use lib.ListN.{length}
-use Rattle.penne.specs.Scoper.{Outcome, scoped, getContainerDepth, getStructureName}
-use Rattle.hurdlebraid.specs.Telling.{Told, toldWords, scopedTold, Analyzes, depthTold, nameTold}
+use Rattle.penne.specs.Scoper.{Outcome, scoped, getContainerDepth, isContainer, getStructureName}
+use Rattle.hurdlebraid.specs.Telling.{Told, toldWords, scopedTold, Analyzes, depthAndKind, nameTold}
 
 -- hurdlebraid_analyze: the same tree, as much lent, and the same is left, whatever was in what was lent
 pub record Same (o o₁ l l₁ w w₁ u u₁ : List ℕ) : Type 0 where
@@ -27,7 +27,7 @@ analyzes-unique {t} {o} {l} {w} {u} {o₁} {l₁} {w₁} {u₁} k h a b c d =
 told-unique : (t : Told) (u u₁ : List ℕ) {u′ u₂ : List ℕ} → u′ ≡ toldWords (length u) t → u₂ ≡ toldWords (length u₁) t → length u ≡ length u₁ → u′ ≡ u₂
 told-unique t u u₁ e f h = e ∙ ap (λ (n : ℕ). toldWords n t) h ∙ sym f
 
-pub depth-unique : (t : List ℕ) (k max : ℕ) (u u₁ : List ℕ) {u′ u₂ : List ℕ} → u′ ≡ toldWords (length u) (depthTold max (getContainerDepth t k 4294967295)) → u₂ ≡ toldWords (length u₁) (depthTold max (getContainerDepth t k 4294967295)) → length u ≡ length u₁ → u′ ≡ u₂
+pub depth-unique : (t : List ℕ) (k max : ℕ) (u u₁ : List ℕ) {u′ u₂ : List ℕ} → u′ ≡ toldWords (length u) (depthAndKind (getContainerDepth t k max) (isContainer t k)) → u₂ ≡ toldWords (length u₁) (depthAndKind (getContainerDepth t k max) (isContainer t k)) → length u ≡ length u₁ → u′ ≡ u₂
 depth-unique t k max u u₁ e f h = told-unique _ u u₁ e f h
 
 pub name-unique : (t : List ℕ) (k : ℕ) (u u₁ : List ℕ) {u′ u₂ : List ℕ} → u′ ≡ toldWords (length u) (nameTold (getStructureName t k)) → u₂ ≡ toldWords (length u₁) (nameTold (getStructureName t k)) → length u ≡ length u₁ → u′ ≡ u₂

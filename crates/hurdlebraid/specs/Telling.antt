@@ -1,9 +1,8 @@
 -- What the calls of the C interface leave behind.
 use Prim.Native.Nat.{ℕ}
 use mathlib.Core.Path.{_≡_}
-use mathlib.Core.Bool.{true, false}
+use mathlib.Core.Bool.{Bool, true, false}
 use mathlib.Core.List.{List, [], _∷_, _++_}
-use lib.Dec.{ltb}
 use lib.ListN.{length, getD, take, replicate}
 use Rattle.penne.specs.Scoper.{Asked, told, untold, Outcome, scoped}
 
@@ -36,10 +35,11 @@ pub record Analyzes (t o l w u : List ℕ) (o′ l′ w′ u′ : List ℕ) : Ty
   pub work : w′ ≡ (scoped t (length o) (length l) (length w)) .work
   pub tells : u′ ≡ toldWords (length u) (scopedTold (scoped t (length o) (length l) (length w)))
 
--- of get_container_depth, asked with the largest maximum: the depth and 1, or the given maximum and 0
-unfoldable pub depthTold : (max : ℕ) → Asked ℕ → Told
-depthTold max (told d) = elim (ltb d 4294967295) [ true ↦ record { number = 0; place = 0; first = d; second = 1 } | false ↦ record { number = 0; place = 0; first = max; second = 0 } ]
-depthTold max (untold n p) = record { number = n; place = p; first = 0; second = 0 }
+-- of get_container_depth and is_container: the depth or the given maximum, then 1 for a container and 0 for none
+unfoldable pub depthAndKind : Asked ℕ → Asked Bool → Told
+depthAndKind (told d) (told b) = record { number = 0; place = 0; first = d; second = elim b [ true ↦ 1 | false ↦ 0 ] }
+depthAndKind (told d) (untold n p) = record { number = n; place = p; first = 0; second = 0 }
+depthAndKind (untold n p) b = record { number = n; place = p; first = 0; second = 0 }
 
 -- of get_structure_name: where the name begins, and its length
 unfoldable pub nameTold : Asked (ℕ × ℕ) → Told

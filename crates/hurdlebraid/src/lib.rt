@@ -7,8 +7,8 @@ use scoper::Scoped;
 use scoper::analyze;
 ghost use mathlib.Core.Path.{_≡_};
 ghost use lib.ListN.{length};
-ghost use Rattle.penne.specs.Scoper.{getContainerDepth, getStructureName};
-ghost use Rattle.hurdlebraid.specs.Telling.{Told, toldWords, Analyzes, depthTold, nameTold, wordOf};
+ghost use Rattle.penne.specs.Scoper.{getContainerDepth, isContainer, getStructureName};
+ghost use Rattle.hurdlebraid.specs.Telling.{Told, toldWords, Analyzes, depthAndKind, nameTold, wordOf};
 
 // The values: the answer's length in bytes, the list's in records.
 #[no_mangle]
@@ -40,7 +40,7 @@ pub extern "C" fn hurdlebraid_container_depth(
     max: u32,
     outcome: &mut [u64],
 )
-    ensures { λ _. ⌜ now (outcome .exit) ≡ toldWords (length (now (outcome .entry))) (depthTold max (getContainerDepth (now (tree .entry)) declaration 4294967295)) ⌝ }
+    ensures { λ _. ⌜ now (outcome .exit) ≡ toldWords (length (now (outcome .entry))) (depthAndKind (getContainerDepth (now (tree .entry)) declaration max) (isContainer (now (tree .entry)) declaration)) ⌝ }
 {
     let depth = get_container_depth(tree, declaration, 4294967295);
     match depth {

@@ -2,14 +2,14 @@
 use mathlib.Core.Path.{_≡_, refl, sym, ap, subst, _∙_}
 use mathlib.Core.List.{List, [], _∷_, _++_}
 use mathlib.Core.Option.{Option, none, some}
-use Prim.Native.Nat.{ℕ, zero, suc, _+_, _-_, _≤_, _<_}
+use Prim.Native.Nat.{ℕ, _+_, _-_, _≤_, _<_}
 use native.Mathlib.Omega.{arith}
 use native.Mathlib.Decide.{decLt}
 use lib.ListN.{length, getD, take, drop, replicate, length-append, length-replicate, getD-replicate, List·getD-append}
 use lib.Seq.{length-take-le, getD-take, getD-drop, getD-append-add}
 use borrow.Rule.Slice.PartMut.{midOf, postOf, putMid, mid-len}
-use Rattle.penne.specs.Tree.{Spot, Ident, Maybe, ok, err, stmt, stmts, Stm, Body, Decl, constant, function, functionHead, structure, import, badDecl}
-use Rattle.penne.specs.Reader.{Counts, Cur, Got, got, refused, Reader, _>>=_, ret, many, listed, nothing}
+use Rattle.penne.specs.Tree.{Spot, Ident, ok, err, stmt, stmts, Stm, Body, Decl, constant, function, functionHead, structure, import, badDecl}
+use Rattle.penne.specs.Reader.{Counts, Cur, Got, got, ret, many, listed, nothing}
 use Rattle.penne.specs.Read.{toStms, readStmt, readDecl}
 use Rattle.penne.specs.Labels.{Labels, labels, labelsBody, labelsDecl, popScope}
 use Rattle.fields.specs.declared.counts.Counts as C
@@ -25,14 +25,14 @@ use Rattle.label_references.specs.declared.shape.Start.{Start}
 use Rattle.label_references.specs.declared.shape.Start.the-variants as St
 use Rattle.label_references.specs.declared.shape.Body as BodyType
 use Rattle.label_references.specs.declared.shape.Body.the-variants as B
-use Rattle.labels.specs.Outcomes.{outcomes, labelsIn, statementsIn, bodyOf, bodyOutcomes, bodyLabels, outcomesDecls, labelsInDecls}
+use Rattle.labels.specs.Outcomes.{labelsIn, statementsIn, bodyOf, bodyOutcomes, bodyLabels, outcomesDecls, labelsInDecls}
 use Rattle.labels.specs.Table.{list, Rows, turned, Told, Off}
-use Rattle.scopes.specs.Labels.{Along, stop, step, Named}
-use Rattle.labels.specs.Visit.{Held, Touches, Did, VisitsList}
+use Rattle.scopes.specs.Labels.{Along, stop, Named}
+use Rattle.labels.specs.Visit.{Held, Touches, VisitsList}
 use Rattle.label_references.specs.Lay.{Only, ListLaid, LaysList}
 use Rattle.label_references.specs.Pass.{StartOf, no-start, start-at, Starts, BodyLaid, no-body, body, LaysBody, fresh, Beyond, Decided, Decides, AllDecided, DecidesAll, Pass, uncounted}
 use Rattle.labels.proofs.Along.{along-append, along-length, along-le, along-map}
-use Rattle.labels.proofs.Rowing.{rows-le, rows-high}
+use Rattle.labels.proofs.Rowing.{rows-high}
 use Rattle.labels.proofs.Visiting.{did-turned, labels-length}
 use Rattle.label_references.proofs.Leading.{Leads, leads-bind, leads-ret, passes-here, leads-unpassed}
 use Rattle.label_references.proofs.Laying.{to-end, never-not, many-step}

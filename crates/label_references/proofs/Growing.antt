@@ -1,20 +1,19 @@
 -- What is counted while a tree is read: every label is an entry, and row 8's limits hold.
 use mathlib.Core.Path.{_≡_, refl, sym, ap, subst, _∙_}
 use mathlib.Core.Bool.{Bool, true, false}
-use mathlib.Core.List.{List, [], _∷_, _++_}
-use mathlib.Core.Option.{Option, none, some}
-use Prim.Native.Nat.{ℕ, zero, suc, _+_, _≤_, _<_}
+use mathlib.Core.List.{List}
+use Prim.Native.Nat.{ℕ, zero, suc, _+_, _≤_}
 use native.Mathlib.Omega.{arith}
-use lib.ListN.{length, getD, length-append}
-use Rattle.penne.specs.Tree.{Spot, Ident, Maybe, ok, err, expr, stmt, stmts, elseBranch, Stm, goto, label, noElse, orElse, Body, Decl, Param, import, badDecl}
-use Rattle.penne.specs.Reader.{Counts, Cur, Got, got, refused, Reader, _>>=_, ret, such, num, below, bytes, many, listed, plus, fits, counted, counting, tooDeep, nothing, aContainer, aFunction, anEntry, aStatement}
-use Rattle.penne.specs.Read.{place, ident, readPoison, either, maybe, option, readTy, read, toStms, StmtKind, kDeclaration, kAssignment, kMethodCall, kLoop, kGoto, kLabel, kIf, kBlock, kBadStmt, stmtKinds, stmtHead, stmtCounts, stmtOf, readStmt, elseOf, readDeclaration, readAssignment, readMethodCall, readJump, readIf, readBlock, readBody, readParam, DeclKind, kConstant, kFunction, kFunctionHead, kStructure, kImport, kBadDecl, declKinds, declHead, declCounts, declOf, readDecl, readConstant, readFunction, readFunctionHead, readStructure, readImport}
+use lib.ListN.{length, length-append}
+use Rattle.penne.specs.Tree.{Spot, expr, stmt, Stm, Decl}
+use Rattle.penne.specs.Reader.{Counts, Cur, Got, got, refused, Reader, _>>=_, ret, such, many, listed, plus, fits, counted, counting, nothing, aContainer, aFunction, anEntry, aStatement}
+use Rattle.penne.specs.Read.{either, maybe, read, toStms, StmtKind, kDeclaration, kAssignment, kMethodCall, kLoop, kGoto, kLabel, kIf, kBlock, kBadStmt, stmtHead, stmtCounts, stmtOf, readStmt, elseOf, readDeclaration, readAssignment, readMethodCall, readJump, readIf, readBlock, readBody, readParam, DeclKind, kConstant, kFunction, kFunctionHead, kStructure, kImport, kBadDecl, declHead, declCounts, declOf, readDecl, readConstant, readFunction, readFunctionHead, readStructure, readImport}
 use Rattle.labels.specs.Outcomes.{labelsIn, statementsIn, bodyOf, bodyLabels, labelsInDecls}
 use Rattle.tree.specs.declared.script.Layout.{Layout}
 use Rattle.fields.specs.Answers.{cursor}
 use Rattle.tree.specs.Script.{LaidOut}
 use Rattle.label_references.proofs.Leading.{Leads, leads-none, leads-ret, leads-bind, leads-deep}
-use Rattle.label_references.proofs.Keeping.{Same, Keeps, keeps-ret, keeps-bind, keeps-such, keeps-num, keeps-below, keeps-place, keeps-ident, keeps-many, keeps-listed, keeps-either, keeps-poison, keeps-maybe, keeps-option, keeps-ty, keeps-read, keeps-bytes}
+use Rattle.label_references.proofs.Keeping.{Same, Keeps, keeps-ret, keeps-bind, keeps-num, keeps-below, keeps-place, keeps-ident, keeps-listed, keeps-poison, keeps-maybe, keeps-option, keeps-ty, keeps-read, keeps-bytes}
 use Rattle.label_references.proofs.Laying.{fits-statements}
 
 -- n entries more are counted, at least, and the limits hold if they held

@@ -1,17 +1,14 @@
 -- What the readers of parts leave as it was: nothing is counted but declarations, statements, parameters and members.
-use mathlib.Core.Path.{_≡_, refl, sym, ap, subst, _∙_}
+use mathlib.Core.Path.{_≡_, refl, sym, ap, _∙_}
 use mathlib.Core.Bool.{Bool, true, false, _&&_, _||_, not}
-use mathlib.Core.List.{List, [], _∷_}
-use mathlib.Core.Option.{Option, none, some}
-use Prim.Native.Nat.{ℕ, zero, suc, _+_, _*_, _%_, _^_, _≤_, _<_}
-use native.Mathlib.Omega.{arith}
+use mathlib.Core.List.{List}
+use Prim.Native.Nat.{ℕ, zero, suc, _+_, _*_, _%_, _^_}
 use lib.Dec.{ltb, leb, eqb}
 use lib.ListN.{length, getD, take, drop}
-use Rattle.penne.specs.Tree.{Spot, Ident, Poison, poison, earlier, Maybe, ok, err, Ty, Kind, expr, ref, step, item, one, Node, signed, bits, badExpr, reference, stmt, Stm, goto, label}
-use Rattle.penne.specs.Reader.{Counts, Cur, Got, got, refused, Reader, _>>=_, ret, such, num, groups, lastGroup, moved, below, raw, bytes, many, listed, tooDeep, counting, counted}
-use Rattle.penne.specs.Read.{place, name, ident, poisonFields, poisonOf, readPoison, either, maybe, option, TyKind, kPlain, kArray, kNamedLength, kArraylike, kStruct, kWord, kUnresolved, kNameless, kPointer, kView, tyKinds, tyOf, readTy, toNodes, Readers, itemOf, readBinary, readUnary, readBoolean, readInteger, readString, readArrayLiteral, readStructural, readParenthesized, readDeref, readBitCast, readTypeCast, readLengthOfArray, readSizeOf, readFunctionCall, ExprKind, kBinary, kUnary, kBoolean, kSigned, kBits, kString, kArrayLiteral, kStructural, kParenthesized, kDeref, kBitCast, kTypeCast, kLengthOfArray, kSizeOf, kFunctionCall, kBadExpr, exprKinds, exprOf, stepOf, head, restOf, read, stmtKinds, stmtOf, kBadStmt, readDeclaration, readAssignment, readMethodCall}
+use Rattle.penne.specs.Tree.{Spot, Ident, Poison, poison, earlier, Ty, Kind, expr, ref, step, item, stmt, Stm}
+use Rattle.penne.specs.Reader.{Cur, Got, got, refused, Reader, _>>=_, ret, such, num, groups, lastGroup, moved, below, raw, bytes, many, listed, tooDeep}
+use Rattle.penne.specs.Read.{place, name, ident, poisonFields, poisonOf, readPoison, either, maybe, option, TyKind, kPlain, kArray, kNamedLength, kArraylike, kStruct, kWord, kUnresolved, kNameless, kPointer, kView, tyOf, readTy, Readers, itemOf, readBinary, readUnary, readBoolean, readInteger, readString, readArrayLiteral, readStructural, readParenthesized, readDeref, readBitCast, readTypeCast, readLengthOfArray, readSizeOf, readFunctionCall, ExprKind, kBinary, kUnary, kBoolean, kSigned, kBits, kString, kArrayLiteral, kStructural, kParenthesized, kDeref, kBitCast, kTypeCast, kLengthOfArray, kSizeOf, kFunctionCall, kBadExpr, exprOf, stepOf, head, restOf, read, stmtKinds, stmtOf, kBadStmt, readDeclaration, readAssignment, readMethodCall}
 use Rattle.labels.specs.Table.{Leaf, declares, assigns, calls, loops, bad}
-use Rattle.fields.proofs.Chain.{after}
 use Rattle.label_references.proofs.Leading.{Leads, leads-bind, leads-none, leads-ret, leads-deep}
 
 -- what is got, if anything, is got where as much is counted as at c

@@ -8,9 +8,9 @@ use lib.Dec.{leb}
 use lib.ListN.{length, getD, set, length-set}
 use lib.Seq.{getD-set-same, getD-set-other}
 use borrow.Author.Tests.{leb-true}
-use Rattle.penne.specs.Tree.{Spot, Ident, Expr, stmt, elseBranch, Stm, goto, label, ifElse, block, noElse, orElse}
-use Rattle.penne.specs.Reader.{Counts, Cur, Got, got, refused, Reader, _>>=_, ret, num, below, many, listed, plus, fits, counted, counting, aStatement, anEntry}
-use Rattle.penne.specs.Read.{place, read, either, elseOf, toStms, readStmt, stmtHead, stmtOf, StmtKind, kDeclaration, kAssignment, kMethodCall, kLoop, kGoto, kLabel, kIf, kBlock, kBadStmt, stmtKinds, stmtCounts, readJump, readIf, readBlock}
+use Rattle.penne.specs.Tree.{Spot, Ident, Expr, stmt, elseBranch, Stm, goto, label, ifElse, block}
+use Rattle.penne.specs.Reader.{Counts, Cur, Got, got, Reader, _>>=_, ret, num, below, many, listed, plus, fits, counted, aStatement, anEntry}
+use Rattle.penne.specs.Read.{place, either, elseOf, toStms, readStmt, stmtHead, stmtOf, StmtKind, kDeclaration, kAssignment, kMethodCall, kLoop, kGoto, kLabel, kIf, kBlock, kBadStmt, stmtKinds, stmtCounts, readJump, readBlock}
 use Rattle.fields.specs.declared.number.Read.{Read}
 use Rattle.fields.specs.declared.number.Read.the-variants.{Number, Refused}
 use Rattle.fields.specs.declared.field.Identifier.{Identifier}
@@ -21,8 +21,8 @@ use Rattle.fields.specs.declared.counts.Counted.{Counted}
 use Rattle.fields.specs.declared.counts.Counted.the-variants.{Are, TooMany}
 use Rattle.fields.specs.declared.counts.Passed.{Passed}
 use Rattle.fields.specs.declared.counts.Passed.the-variants as P
-use Rattle.fields.specs.Answers.{cursor, Gives, Ends, Skips, Identifies, identOf, operator, countsOf, Counting, passedBy, Passes}
-use Rattle.fields.proofs.Chain.{reads, ends-number, ends-place, operator-same, after}
+use Rattle.fields.specs.Answers.{cursor, Gives, Identifies, identOf, countsOf, Counting, passedBy, Passes}
+use Rattle.fields.proofs.Chain.{reads, ends-place, after}
 use Rattle.fields.proofs.Counting.{fitted, counting-fits}
 use Rattle.tree.proofs.Statements.{kind-value, stmt-unread, stmt-deep, stmt-many}
 use Rattle.label_references.specs.declared.shape.Shaped.{Shaped}
@@ -31,7 +31,7 @@ use Rattle.labels.specs.Table.{Leaf, Row, Part, single, list, Rows, leaf-row, g
 use Rattle.label_references.specs.Lay.{Only, SetsRow, Laid, Lays, LaysKind, LaysLeaf, LaysElse, ListLaid, LaysList, EndsAt}
 use Rattle.labels.proofs.Rowing.{rows-le, rows-lt, rows-high, rows-below, SameRow, rows-same}
 use Rattle.label_references.proofs.Keeping.{leaf-kind}
-use Rattle.label_references.proofs.Leading.{Leads, leads-none, leads-same, leads-ret, leads-bind, leads-part, leads-unpart, leads-read, leads-unread, leads-ident, leads-unident, passes-here, leads-never}
+use Rattle.label_references.proofs.Leading.{Leads, leads-same, leads-ret, leads-bind, leads-part, leads-unpart, leads-read, leads-unread, leads-ident, leads-unident, passes-here, leads-never}
 
 -- ROWS
 

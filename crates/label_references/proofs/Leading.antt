@@ -1,10 +1,9 @@
 -- Whatever a reader of the definitions reads: its parts one after another.
 use mathlib.Core.Path.{_≡_, sym, ap, subst, _∙_}
-use mathlib.Core.List.{List, [], _∷_}
-use Prim.Native.Nat.{ℕ, zero, suc, _+_, _-_, _≤_, _<_}
-use native.Mathlib.Omega.{arith}
+use mathlib.Core.List.{List}
+use Prim.Native.Nat.{ℕ}
 use Rattle.penne.specs.Tree.{Spot, Ident}
-use Rattle.penne.specs.Reader.{Counts, Cur, Got, got, refused, Reader, _>>=_, ret, num, below, many}
+use Rattle.penne.specs.Reader.{Counts, Cur, Got, got, refused, Reader, _>>=_, ret, num}
 use Rattle.penne.specs.Read.{ident, place}
 use Rattle.penne.proofs.Leading.{never as never-got, leads-got, leads-bind as bind-leads}
 pub use Rattle.penne.proofs.Leading.{Leads, leads-deep}
@@ -17,8 +16,8 @@ use Rattle.fields.specs.declared.counts.Counts as C
 use Rattle.fields.specs.declared.counts.Passed.{Passed}
 use Rattle.fields.specs.declared.counts.Passed.the-variants.{To}
 use Rattle.fields.specs.declared.counts.Passed.the-variants as P
-use Rattle.fields.specs.Answers.{cursor, endOf, forget, Gives, Reads, Ends, Skips, identOf, identifiedOf, Identifies, countsOf, passedOf, Passes, operator, twoPlaces}
-use Rattle.fields.proofs.Chain.{never, never′, here, operator-same, places-same, reads}
+use Rattle.fields.specs.Answers.{cursor, endOf, forget, Reads, Ends, Skips, identOf, identifiedOf, Identifies, countsOf, passedOf, Passes, operator, twoPlaces}
+use Rattle.fields.proofs.Chain.{never′, here, operator-same, places-same}
 use Rattle.fields.proofs.Fields.{goes, stops}
 
 pub leads-none : {A : Type 0} {P : A → Cur → Type 0} (q : Got A) {i p : ℕ} → q ≡ refused i p → Leads q P

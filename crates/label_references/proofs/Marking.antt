@@ -1,6 +1,6 @@
 -- The words of a tree say what the definition's label pass makes of it.
 use mathlib.Core.Path.{_≡_, refl, sym, ap, subst, _∙_}
-use mathlib.Core.Bool.{Bool, true, false}
+use mathlib.Core.Bool.{true, false}
 use mathlib.Core.List.{List, [], _∷_, _++_, map, append-assoc, append-nil}
 use mathlib.Core.Option.{Option, none, some}
 use Prim.Native.Nat.{ℕ, zero, suc, _+_, _-_, _≤_, _<_}
@@ -10,7 +10,7 @@ use lib.ListN.{length, getD, length-append}
 use Rattle.label_references.specs.Pass.{fresh}
 use borrow.Author.Tests.{le-leb, lt-leb}
 use Rattle.penne.specs.Find.{first, firstNamed, resolved}
-use Rattle.penne.specs.Tree.{Spot, Ident, poison, StmSort, stmt, Stm, nil′, cons′, declaration, assignment, methodCall, loop, goto, label, ifElse, block, badStmt, noElse, orElse, stmts, Maybe, ok, err, Body, Decl, constant, function, functionHead, structure, import, badDecl}
+use Rattle.penne.specs.Tree.{Spot, Ident, poison, StmSort, stmt, Stm, nil′, cons′, declaration, assignment, methodCall, loop, goto, label, ifElse, block, badStmt, noElse, orElse, stmts, ok, err, Decl, constant, function, functionHead, structure, import, badDecl}
 use Rattle.penne.specs.Labels.{Labels, labels, useLabel, declareLabel, declared, popScope, labelsBody, labelsDecl, labelsDecls, labelReferences}
 use Rattle.penne.proofs.Searching.{first-hit, first-miss}
 use Rattle.labels.specs.Outcomes.{gotoWord, labelWord, outcomes, labelsIn, statementsIn, bodyOf, bodyOutcomes, bodyLabels, outcomesDecls, labelsInDecls}

@@ -1,14 +1,14 @@
 -- Where a function's statements begin: the readers of a declaration up to its body.
 use mathlib.Core.Path.{_≡_, refl, sym, ap, subst, _∙_}
 use mathlib.Core.Bool.{Bool, true, false}
-use mathlib.Core.List.{List, [], _∷_}
-use mathlib.Core.Option.{Option, none, some}
-use Prim.Native.Nat.{ℕ, zero, suc, _+_, _-_, _≤_, _<_}
+use mathlib.Core.List.{List}
+use mathlib.Core.Option.{none, some}
+use Prim.Native.Nat.{ℕ, zero, suc, _+_}
 use native.Mathlib.Omega.{arith}
-use lib.ListN.{length, getD}
-use Rattle.penne.specs.Tree.{Spot, Ident, Maybe, ok, err, Ty, expr, stmt, Stm, Body, Decl, function, Param}
-use Rattle.penne.specs.Reader.{Counts, Cur, Got, got, refused, Reader, _>>=_, ret, num, below, many, listed, plus, fits, counting, counted, nothing, aContainer, aFunction, anEntry}
-use Rattle.penne.specs.Read.{place, ident, readPoison, either, maybe, option, readTy, read, toStms, readStmt, readBody, readParam, DeclKind, kConstant, kFunction, kFunctionHead, kStructure, kImport, kBadDecl, declKinds, declHead, declCounts, declOf, readDecl, readConstant, readFunction, readFunctionHead, readStructure, readImport}
+use lib.ListN.{getD}
+use Rattle.penne.specs.Tree.{Spot, Ident, Maybe, ok, Ty, expr, stmt, Stm, Body, Decl, function, Param}
+use Rattle.penne.specs.Reader.{Counts, Cur, Got, got, Reader, _>>=_, ret, below, many, listed, plus, fits, counting, counted, nothing, aContainer, aFunction, anEntry}
+use Rattle.penne.specs.Read.{maybe, readTy, toStms, readStmt, readBody, readParam, DeclKind, kConstant, kFunction, kFunctionHead, kStructure, kImport, kBadDecl, declKinds, declHead, declCounts, declOf, readDecl, readConstant, readFunctionHead, readStructure, readImport}
 use Rattle.fields.specs.declared.number.Read.{Read}
 use Rattle.fields.specs.declared.number.Read.the-variants.{Number, Refused}
 use Rattle.fields.specs.declared.counts.Counts as C
@@ -16,17 +16,17 @@ use Rattle.fields.specs.declared.counts.Counted.{Counted}
 use Rattle.fields.specs.declared.counts.Counted.the-variants.{Are, TooMany}
 use Rattle.fields.specs.declared.counts.Passed.{Passed}
 use Rattle.fields.specs.declared.counts.Passed.the-variants as P
-use Rattle.fields.specs.Answers.{cursor, Gives, Ends, countsOf, Counting, passedBy, Passes}
-use Rattle.fields.proofs.Chain.{reads, ends-number, after}
+use Rattle.fields.specs.Answers.{cursor, Gives, countsOf, Counting, passedBy, Passes}
+use Rattle.fields.proofs.Chain.{after}
 use Rattle.fields.proofs.Counting.{fitted, counting-fits}
 use Rattle.tree.proofs.Statements.{kind-value, decl-unread, decl-many}
 use Rattle.label_references.specs.declared.shape.Start.{Start}
 use Rattle.label_references.specs.declared.shape.Start.the-variants as St
 use Rattle.labels.specs.Outcomes.{statementsIn, bodyOf}
 use Rattle.label_references.specs.Pass.{StartOf, no-start, start-at, Starts}
-use Rattle.label_references.proofs.Leading.{Leads, leads-none, leads-same, leads-ret, leads-bind, passes-here, leads-never}
+use Rattle.label_references.proofs.Leading.{Leads, leads-same, leads-ret, leads-bind, passes-here, leads-never}
 use Rattle.label_references.proofs.Keeping.{Keeps, keeps-num, keeps-below, keeps-place, keeps-ident, keeps-bytes, keeps-poison, keeps-maybe, keeps-option, keeps-ty, keeps-read}
-use Rattle.label_references.proofs.Growing.{Counts-on, counting-leads}
+use Rattle.label_references.proofs.Growing.{counting-leads}
 use Rattle.label_references.proofs.Laying.{either-unled, either-leads, either-second}
 
 -- m counts no statement

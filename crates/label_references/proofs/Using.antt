@@ -1,19 +1,19 @@
 -- What the second pass finds in the words: the outcome of the k-th statement, the name and the place of the label with an id.
-use mathlib.Core.Path.{_≡_, refl, sym, ap, subst, _∙_}
-use mathlib.Core.List.{List, [], _∷_}
-use Prim.Native.Nat.{ℕ, zero, suc, _+_, _-_, _≤_, _<_}
+use mathlib.Core.Path.{_≡_, sym, ap, subst, _∙_}
+use mathlib.Core.List.{List, _∷_}
+use Prim.Native.Nat.{ℕ, suc, _+_, _-_, _≤_, _<_}
 use native.Mathlib.Omega.{arith}
 use native.Mathlib.Decide.{ℕ-discrete}
 use lib.ListN.{length, getD}
 use Rattle.penne.specs.Tree.{Spot, Ident}
 use Rattle.tree.specs.declared.script.Layout.{Layout}
 use Rattle.tree.specs.Script.{LaidOut}
-use Rattle.labels.specs.Outcomes.{outcomesDecls, labelsInDecls}
+use Rattle.labels.specs.Outcomes.{outcomesDecls}
 use Rattle.labels.specs.Table.{Told}
 use Rattle.scopes.specs.Labels.{Along, stop, step, Named}
 use Rattle.labels.specs.Visit.{Shows}
 use Rattle.label_references.specs.Pass.{fresh, Pass}
-use Rattle.labels.proofs.Along.{along-length, along-le}
+use Rattle.labels.proofs.Along.{along-length}
 use Rattle.label_references.proofs.Growing.{statements-few}
 
 told-nth : {w os : List ℕ} {k n : ℕ} (i : ℕ) → Along (Told w) k os n → k ≤ i → i < n → getD w i 0 ≡ getD os (i - k) 0

@@ -4,7 +4,7 @@ use mathlib.Core.Path.{_≡_}
 use mathlib.Core.List.{List, []}
 use mathlib.Core.Option.{none, some}
 use lib.ListN.{length, getD}
-use Rattle.penne.specs.Tree.{Spot, Ident, stmt, Stm, Decl}
+use Rattle.penne.specs.Tree.{Spot, stmt, Stm, Decl}
 use Rattle.penne.specs.Reader.{Cur, Got, got, listed}
 use Rattle.penne.specs.Read.{toStms, readStmt}
 use Rattle.penne.specs.Labels.{Labels, labelsDecl}

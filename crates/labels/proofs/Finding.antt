@@ -1,9 +1,8 @@
 -- The search for a label, and the leaves of the visit.
-use mathlib.Core.Path.{_≡_, refl, sym, ap, subst, _∙_}
+use mathlib.Core.Path.{_≡_, refl, sym, ap, _∙_}
 use mathlib.Core.Bool.{Bool, true, false}
-use mathlib.Core.List.{List, [], _++_}
-use mathlib.Core.Option.{Option, none}
-use Prim.Native.Nat.{ℕ, zero, suc, _+_, _-_, _<_, _≤_}
+use mathlib.Core.List.{List}
+use Prim.Native.Nat.{ℕ, suc, _+_, _-_, _<_, _≤_}
 use native.Mathlib.Omega.{arith}
 use lib.Dec.{eqb}
 use lib.ListN.{length, getD, set}
@@ -15,7 +14,7 @@ use Rattle.labels.specs.declared.Labels as L
 use Rattle.labels.specs.Outcomes.{gotoWord}
 use Rattle.labels.specs.Table.{Stacked}
 use Rattle.scopes.specs.Labels.{Along, stop, step}
-use Rattle.labels.specs.Visit.{Finds, InScope, NameOf, Bears, Sets, LabelWord, Declares}
+use Rattle.labels.specs.Visit.{Finds, InScope, NameOf, Bears, Sets, Declares}
 use Rattle.labels.proofs.Along.{along-le}
 
 none-go : {w : List ℕ} {next i count : ℕ} {js : List (Ident Spot)} (name : ℕ) → Along (Stacked w next) i js count → count ≤ i → 0 ≡ gotoWord (firstNamed name js)

@@ -1,10 +1,10 @@
 -- Rows of statements: how far they reach, and that they stay where their words stay.
-use mathlib.Core.Path.{_≡_, refl, sym, ap, subst, _∙_}
-use mathlib.Core.List.{List, [], _∷_, _++_}
-use Prim.Native.Nat.{ℕ, zero, suc, _+_, _<_, _≤_}
+use mathlib.Core.Path.{_≡_, _∙_}
+use mathlib.Core.List.{List}
+use Prim.Native.Nat.{ℕ, _+_, _<_, _≤_}
 use native.Mathlib.Omega.{arith}
-use lib.ListN.{length, getD}
-use Rattle.penne.specs.Tree.{Spot, Ident, stmt, Stm}
+use lib.ListN.{getD}
+use Rattle.penne.specs.Tree.{Spot, stmt, Stm}
 use Rattle.labels.specs.Table.{Row, Part, single, list, Rows, leaf-row, goto-row, label-row, if-row, else-row, block-row, no-rows, more-rows}
 
 pub rows-le : {w : List ℕ} {l k k′ : ℕ} {p : Part} → Rows w l k p k′ → k ≤ k′

@@ -1,25 +1,25 @@
 -- The visit: what each of its steps does, and how they go together.
 use mathlib.Core.Path.{_≡_, refl, sym, ap, subst, _∙_}
-use mathlib.Core.Bool.{Bool, true, false}
+use mathlib.Core.Bool.{true, false}
 use mathlib.Core.List.{List, [], _∷_, _++_, append-assoc, append-nil}
 use lib.Dec.{eqb}
 use mathlib.Core.Option.{Option, none, some}
-use Prim.Native.Nat.{ℕ, zero, suc, _+_, _-_, _<_, _≤_}
+use Prim.Native.Nat.{ℕ, suc, _+_, _-_, _<_, _≤_}
 use native.Mathlib.Omega.{arith}
 use lib.ListN.{length, getD, set, length-set, length-append}
 use lib.Seq.{getD-set-same, getD-set-other}
-use Rattle.penne.specs.Tree.{Spot, Ident, stmt, Stm, ifElse, noElse, orElse, goto, label, block}
+use Rattle.penne.specs.Tree.{Spot, Ident, stmt, Stm}
 use Rattle.penne.specs.Find.{first, firstNamed, resolved}
 use Rattle.penne.specs.Read.{toStms}
 use Rattle.penne.specs.Labels.{Labels, labels, popScope, declared}
 use Rattle.penne.proofs.Searching.{first-hit, first-miss}
 use Rattle.labels.specs.declared.Labels as L
 use Rattle.labels.specs.Outcomes.{gotoWord, labelWord, outcomes, labelsIn}
-use Rattle.labels.specs.Table.{Leaf, declares, assigns, calls, loops, bad, Row, Part, single, list, Rows, leaf-row, goto-row, label-row, if-row, else-row, block-row, no-rows, more-rows, turned, Told, Stacked, Off}
+use Rattle.labels.specs.Table.{Leaf, declares, assigns, calls, loops, bad, single, list, Rows, leaf-row, goto-row, label-row, if-row, else-row, block-row, no-rows, more-rows, turned, Stacked, Off}
 use Rattle.scopes.specs.Labels.{Along, stop, step, Named}
 use Rattle.labels.specs.Visit.{Held, Touches, Did, Visits, VisitsKind, VisitsList, outcomesBack, labelsBack, afterBack, Shows, Finds, Sets, LabelWord, Declares}
 use Rattle.labels.proofs.Along.{along-append, along-length, along-le, along-map}
-use Rattle.labels.proofs.Rowing.{rows-le, rows-lt, rows-high, rows-below, rows-last, SameRow, rows-same}
+use Rattle.labels.proofs.Rowing.{rows-le, rows-high, rows-below, rows-last, SameRow, rows-same}
 
 -- WHAT IS TOUCHED
 

@@ -3,7 +3,7 @@ use Prim.Native.Nat.{ℕ, _+_}
 use mathlib.Core.List.{List, [], _∷_, _++_}
 use mathlib.Core.Option.{Option, none, some}
 use Rattle.penne.specs.Find.{firstNamed}
-use Rattle.penne.specs.Tree.{Ident, Maybe, ok, err, StmSort, stmt, stmts, Stm, nil′, cons′, declaration, assignment, methodCall, loop, goto, label, ifElse, block, badStmt, noElse, orElse, Body, Decl, constant, function, functionHead, structure, import, badDecl}
+use Rattle.penne.specs.Tree.{Ident, Maybe, ok, err, StmSort, stmts, Stm, nil′, cons′, declaration, assignment, methodCall, loop, goto, label, ifElse, block, badStmt, noElse, orElse, Body, Decl, constant, function, functionHead, structure, import, badDecl}
 use Rattle.penne.specs.Labels.{Labels, labels, labelsDecl}
 
 -- a goto's word, by what the search found: the label's id, 0 where there is none

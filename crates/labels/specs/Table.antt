@@ -2,7 +2,7 @@
 use Prim.Native.Nat.{ℕ, suc, _+_, _<_, _≤_}
 use mathlib.Core.Path.{_≡_}
 use mathlib.Core.List.{List, [], _∷_}
-use lib.ListN.{length, getD}
+use lib.ListN.{getD}
 use Rattle.penne.specs.Tree.{Spot, Ident, Carried, Expr, Node, one, ref, listOf, expr, Poison, stmt, Stm, declaration, assignment, methodCall, loop, goto, label, ifElse, block, badStmt, noElse, orElse}
 use Rattle.penne.specs.Read.{toStms}
 use mathlib.Core.Option.{Option}

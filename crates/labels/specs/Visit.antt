@@ -10,7 +10,7 @@ use Rattle.penne.specs.Find.{firstNamed}
 use Rattle.penne.specs.Labels.{Labels, labels}
 use Rattle.labels.specs.declared.Labels as L
 use Rattle.labels.specs.Outcomes.{gotoWord, outcomes, labelsIn}
-use Rattle.labels.specs.Table.{Row, Part, single, list, Rows, Told, Stacked, Off}
+use Rattle.labels.specs.Table.{single, list, Rows, Told, Stacked, Off}
 use Rattle.scopes.specs.Labels.{Along, Named}
 
 -- the words hold the labels in scope; every id is below the next

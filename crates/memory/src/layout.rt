@@ -70,6 +70,9 @@ pub const CONTAINER_DEPTH: usize = 512;
 
 pub const CONTAINED: usize = 640;
 
+// The row of bits behind those of the containers, to work with.
+pub const SPARE: usize = 128;
+
 pub const CONTAINED_END: usize = 1156;
 
 pub const EDGES: usize = 1156;

@@ -41,14 +41,3 @@ pub fn next(n: u32) -> u32
 {
     if n < 4294967295 { n + 1 } else { n }
 }
-
-// The place after `at`, or the last one.
-pub fn next_place(at: usize) -> usize
-    ensures { λ r. ⌜ r ≡ min (at + 1) 18446744073709551615 ⌝ }
-{
-    if at < 18446744073709551615 {
-        at + 1
-    } else {
-        at
-    }
-}

@@ -2,7 +2,7 @@
 use mathlib.Core.Path.{_≡_, refl, sym, ap, subst, _∙_}
 use mathlib.Core.Bool.{Bool, true, false, _||_}
 use mathlib.Core.List.{List, [], _∷_, _++_}
-use Prim.Native.Nat.{ℕ, zero, suc, _+_, _-_, _*_, _/_, _%_, _≤_, _<_}
+use Prim.Native.Nat.{ℕ, zero, suc, _+_, _*_, _%_, _≤_, _<_}
 use native.Mathlib.Omega.{arith}
 use native.Mathlib.Decide.{ℕ-discrete}
 use lib.Dec.{eqb}
@@ -13,7 +13,7 @@ use Rattle.penne.specs.Read.{sameBytes, amongNames}
 use Rattle.penne.proofs.Booleans.{true-false, or-right, or-left}
 use Rattle.fields.specs.declared.number.Read.{Read}
 use Rattle.fields.specs.declared.number.Read.the-variants.{Number, Refused}
-use Rattle.name_table.specs.Names.{part, namesFrom, namesEnd, hashFrom, hashOf, markOf, metBy, Marks, Marked, Knows, Noted}
+use Rattle.name_table.specs.Names.{namesFrom, hashFrom, hashOf, markOf, metBy, Marks, Marked, Knows, Noted}
 use Rattle.name_table.proofs.Names.{same-eq, refused-not}
 
 -- A NAME'S NUMBER

@@ -8,14 +8,14 @@ use native.Mathlib.Decide.{ℕ-discrete}
 use native.Mathlib.Nat.{not-suc-le-zero, le-of-suc-le-suc, le-mul-of-pos-right, mul-comm}
 use lib.Dec.{eqb, ltb, leb, lit≤}
 use lib.ListN.{length, getD, take, drop, length-drop}
-use lib.Seq.{drop-cons, drop-length, take-all, take-nil}
-use borrow.Author.Tests.{eq-eqb, ne-eqb, lt-ltb, le-ltb, ltb-true, ltb-false, leb-true, eqb-true, eqb-false}
+use lib.Seq.{drop-length, take-all, take-nil}
+use borrow.Author.Tests.{eq-eqb, ne-eqb, lt-ltb, le-ltb, ltb-true, ltb-false, leb-true, eqb-true}
 use Rattle.penne.specs.Reader.{Counts, Cur, Got, got, refused, Reader, _>>=_, ret, num, groups, lastGroup, moved, such, raw, nothing}
 use Rattle.penne.specs.Read.{sameBytes, amongNames, readNames}
 use Rattle.penne.proofs.Booleans.{and-right, true-false}
 use Rattle.fields.specs.declared.number.Read.{Read}
 use Rattle.fields.specs.declared.number.Read.the-variants.{Number, Refused}
-use Rattle.fields.specs.Answers.{cursor, numberOf, endOf, forget, Gives, Reads, Skips}
+use Rattle.fields.specs.Answers.{cursor, numberOf, endOf, forget, Gives, Skips}
 use Rattle.fields.proofs.Chain.{after, here, never′}
 use Rattle.fields.proofs.Counting.{forget-no}
 use Rattle.fields.proofs.Numbers.{out, last, on, such-no, such-got, such-not}

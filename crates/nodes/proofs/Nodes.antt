@@ -2,18 +2,17 @@
 use mathlib.Core.Path.{_≡_, refl, sym, subst}
 use mathlib.Core.Bool.{true, false}
 use mathlib.Core.List.{List}
-use Prim.Native.Nat.{ℕ, zero, suc, _+_, _≤_, _<_}
+use Prim.Native.Nat.{ℕ, zero, suc, _+_, _≤_}
 use native.Mathlib.Omega.{arith}
 use lib.Dec.{eqb}
 use lib.ListN.{getD}
 use borrow.Author.Tests.{eqb-true, eqb-false}
-use Rattle.penne.specs.Reader.{Reader, below, num}
-use Rattle.penne.specs.Tree.{Spot, Ty, expr, ref, step, signed, bits, badExpr, member}
-use Rattle.penne.specs.Read.{Readers, ident, read, head, restOf, exprOf, stepOf, readTy, ExprKind, exprKinds, kBadExpr, readInteger, readPoison}
+use Rattle.penne.specs.Reader.{Reader, below}
+use Rattle.penne.specs.Tree.{Spot, Ty, expr, ref, step, badExpr}
+use Rattle.penne.specs.Read.{Readers, read, head, restOf, exprOf, stepOf, readTy, ExprKind, exprKinds, kBadExpr, readPoison}
 use Rattle.fields.specs.declared.number.Read.{Read}
-use Rattle.fields.specs.declared.number.Read.the-variants.{Number, Refused}
-use Rattle.fields.specs.Answers.{Gives, Ends}
-use Rattle.fields.proofs.Chain.{Node, reads, ends-number, ends-tail, ends-call, ends-halt}
+use Rattle.fields.specs.Answers.{Ends}
+use Rattle.fields.proofs.Chain.{Node, ends-tail}
 use Rattle.fields.proofs.Fields.{getD-past}
 
 pub expr-node : Node (below 16) (λ l. read l expr) (λ l n. exprOf (read l) (readTy l false) (getD exprKinds n kBadExpr))

@@ -5,17 +5,17 @@ use mathlib.Core.Logic.{_⊎_, inl, inr, ⊎-elim}
 use mathlib.Core.List.{List}
 use Prim.Native.Nat.{ℕ, zero, suc, _+_, _-_, _≤_, _<_}
 use native.Mathlib.Omega.{arith}
-use lib.Dec.{eqb, lit≤}
-use lib.ListN.{length, getD, take, drop, replicate, getD-replicate}
+use lib.Dec.{eqb}
+use lib.ListN.{getD, take, drop, replicate, getD-replicate}
 use lib.Seq.{getD-take, getD-drop}
 use borrow.Author.Tests.{eq-eqb, ne-eqb, eqb-true, eqb-false}
-use Rattle.penne.specs.Reader.{Reader, such, below, num}
-use Rattle.penne.specs.Tree.{Spot, Ty, Ident, array, arrayWithNamedLength, arraylike, struct, word, unresolved, pointer, view}
+use Rattle.penne.specs.Reader.{Reader, below, num}
+use Rattle.penne.specs.Tree.{Spot, Ty, array, arrayWithNamedLength, arraylike, struct, word, unresolved, pointer, view}
 use Rattle.penne.specs.Read.{ident, readTy, tyOf, TyKind, tyKinds, kPlain, kArray, kNamedLength, kArraylike, kStruct, kWord, kUnresolved, kNameless, kPointer, kView}
 use Rattle.fields.specs.declared.number.Read.{Read}
 use Rattle.fields.specs.declared.number.Read.the-variants.{Number, Refused}
-use Rattle.fields.specs.Answers.{Gives, Reads, Ends}
-use Rattle.fields.proofs.Chain.{test-halt, test-passed, test-failed, reads, ends-number, ends-ret, ends-call, ends-halt, ends-tail, ends-read, ends-same, deep-ends, deep-halt}
+use Rattle.fields.specs.Answers.{Gives, Ends}
+use Rattle.fields.proofs.Chain.{test-halt, test-passed, test-failed, reads, ends-number, ends-ret, ends-call, ends-halt, ends-tail, ends-read, deep-ends, deep-halt}
 use Rattle.fields.proofs.Fields.{getD-past}
 
 -- THE KIND

@@ -177,8 +177,8 @@ agreement names ds₀ k f p q i ps b t h g e =
     let n = namesBefore (flatMap constantNames ds) (flatMap structureNames ds) ps in
     record {
       flags = w .flags;
-      place = p;
-      placeOfDeclaration = q;
+      placeOfDeclaration = p;
+      placeOfReturnType = q;
       identifier = w .identifier;
       parameters = w .parameters;
       body = record { statements = answerOf b (beforeBody ps (r .state)) .statements; value = answerOf b (beforeBody ps (r .state)) .value; result = w .result };

@@ -9,7 +9,7 @@ use lib.Seq.{drop-append-seam}
 use Rattle.penne.specs.Find.{isIn, firstNamed}
 use Rattle.penne.specs.Labels.{labelReferences}
 use Rattle.penne.specs.Tree.{Spot, Ident, Maybe, ok, err, Ty, Param, Body, Decl, constant, function, functionHead, structure, import, badDecl, Expr}
-use Rattle.penne.specs.Walks.{premise, bodyActs, NamesSkipped, namesAt, functionNames, partsOf, isBody, hasBody, parts, Demand3-holds}
+use Rattle.penne.specs.Walks.{premise, bodyActs, NamesSkipped, namesAt, functionNames, partsOf, isBody, isKept, parts, Demand3-holds}
 use Rattle.penne.specs.Pruning.{offsets, Prunings}
 use Rattle.penne.specs.Scopes.{Analyzer}
 use Rattle.penne.specs.State as S
@@ -153,8 +153,8 @@ body-function f p q i ps b t none j h = h
 body-function f p q i ps b t (some j′) j h = refl
 
 -- so what is no kept function with a body has none any more
-bodyless : (d : Decl Spot) (a : Analyzer Spot) (fs : List ℕ) → ((x : ℕ) → isSome (firstNamed x (a .functionList)) ≡ isIn x fs) → hasBody fs d ≡ false → bodyOf (V′.predeclare d a .0) ≡ false
-unfolding V′.predeclare S._>>=_ S.ret Q.declareFunction hasBody bodyOf
+bodyless : (d : Decl Spot) (a : Analyzer Spot) (fs : List ℕ) → ((x : ℕ) → isSome (firstNamed x (a .functionList)) ≡ isIn x fs) → isKept fs d ≡ false → bodyOf (V′.predeclare d a .0) ≡ false
+unfolding V′.predeclare S._>>=_ S.ret Q.declareFunction isKept bodyOf
 bodyless (constant f p q i x t) a fs e h = body-as _ _ (λ j. refl)
 bodyless (function f p q i ps b t) a fs e h = body-function f p q i ps b t (firstNamed (i .name) (a .functionList)) _ (ap (λ (y : Bool). not y && isBody b) (e (i .name)) ∙ h)
 bodyless (functionHead f p q i ps t) a fs e h = body-as _ _ (λ j. refl)
@@ -163,7 +163,7 @@ bodyless (import b p) a fs e h = refl
 bodyless (badDecl z) a fs e h = refl
 
 -- what is no kept function with a body has an empty part
-nothing-else : (names : List (List ℕ)) (ds : List (Decl Spot)) (k : ℕ) (d : Decl Spot) → Numbered 1 ds → getElem? ds k ≡ some d → hasBody (flatMap functionNames (take k ds)) d ≡ false → getD (partsOf names ds) k [] ≡ []
+nothing-else : (names : List (List ℕ)) (ds : List (Decl Spot)) (k : ℕ) (d : Decl Spot) → Numbered 1 ds → getElem? ds k ≡ some d → isKept (flatMap functionNames (take k ds)) d ≡ false → getD (partsOf names ds) k [] ≡ []
 unfolding partsOf
 nothing-else names ds k d o h e =
     let aₖ = V′.inTurn V′.predeclare (take k ds) Q.begin .1 in

@@ -4,8 +4,7 @@ use mathlib.Core.Path.{_≡_, refl, sym, _∙_, ap, subst}
 use mathlib.Core.List.{List, [], _∷_, _++_, map, flatMap, append-assoc, append-nil, map-append}
 use mathlib.Core.Option.{Option, none, some}
 use lib.ListN.{length}
-use Rattle.penne.specs.Find.{firstNamed}
-use Rattle.penne.specs.Tree.{Spot, Ident, Maybe, ok, err, Ty, Kind, Sort, Node, nil, cons, binary, unary, boolean, signed, bits, string, arrayLiteral, structural, parenthesized, deref, bitCast, typeCast, lengthOfArray, sizeOf, functionCall, badExpr, reference, element, member, memberExpression, Expr, stmt, StmSort, Stm, nil′, cons′, declaration, assignment, methodCall, loop, goto, label, ifElse, block, badStmt, noElse, orElse, Param, Body, Decl, constant, function, functionHead, structure, import, badDecl, Tree}
+use Rattle.penne.specs.Tree.{Spot, Ident, Maybe, ok, err, Ty, Sort, Node, nil, cons, binary, unary, boolean, signed, bits, string, arrayLiteral, structural, parenthesized, deref, bitCast, typeCast, lengthOfArray, sizeOf, functionCall, badExpr, reference, element, member, memberExpression, Expr, StmSort, Stm, nil′, cons′, declaration, assignment, methodCall, loop, goto, label, ifElse, block, badStmt, noElse, orElse, Param, Body, Decl, constant, function, functionHead, structure, import, badDecl}
 use Rattle.penne.specs.Labels.{Labels, useLabel, declareLabel, labels, labelsBody, labelsDecl, labelsDecls, labelReferences}
 use Rattle.penne.specs.Pruning.{Prunings, noPrunings, Fate, pruned, poisoned, standing, poisonVariable, listSkip, offsets}
 use Rattle.penne.specs.Pruning as R
@@ -18,7 +17,7 @@ use Rattle.penne.specs.Scopes as Q
 use Rattle.penne.specs.Variables as V′
 use Rattle.penne.proofs.Rising.{LeftOf, neither, stays, left-none, left-all, left-append, left-rising}
 use Rattle.penne.proofs.OffsetsRead.{offsetsAt, offsetsOf, inNode, inStm, inBody, inDecl, decoded-rises}
-use Rattle.penne.proofs.Leaves.{Leaves, l-ret, l-bind, l-scope, l-as, l-type, l-maybe, l-turn, l-param, l-found, l-function, l-functionOf, l-head, l-structure, l-predeclare}
+use Rattle.penne.proofs.Leaves.{Leaves, l-ret, l-bind, l-as, l-type, l-maybe, l-turn, l-param, l-found, l-function, l-functionOf, l-head, l-structure, l-predeclare}
 use Rattle.penne.proofs.Keeps.{label-skips}
 
 -- THE FIRST PASS: it changes gotos and labels alone

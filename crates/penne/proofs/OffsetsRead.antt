@@ -1,18 +1,18 @@
 -- The offsets of uses rise along what is read: the parts of a tree that hold uses stand in the order in which they are read.
-use Prim.Native.Nat.{ℕ, zero, suc, _+_, _≤_}
-use mathlib.Core.Bool.{Bool, true, false}
+use Prim.Native.Nat.{ℕ, zero, suc}
+use mathlib.Core.Bool.{true, false}
 use mathlib.Core.Path.{_≡_, refl, sym, _∙_, ap, subst}
 use mathlib.Core.List.{List, [], _∷_, _++_, flatMap, append-assoc, append-nil}
-use mathlib.Core.Option.{Option, none, some}
+use mathlib.Core.Option.{none}
 use native.Mathlib.Omega.{arith}
 use lib.ListN.{length}
-use Rattle.penne.specs.Tree.{Spot, Ident, Poison, Maybe, ok, err, Kind, expr, ref, step, item, one, Node, stmt, Stm, Body, Decl, constant, function, functionHead, structure, import, badDecl, Tree}
-use Rattle.penne.specs.Reader.{Counts, Cur, got, Reader, _>>=_, ret, such, num, below, many, listed, counting, counted, tooDeep, plus, fits, nothing}
-use Rattle.penne.specs.Read.{ident, either, maybe, option, readTy, toNodes, ExprKind, kBinary, kUnary, kBoolean, kSigned, kBits, kString, kArrayLiteral, kStructural, kParenthesized, kDeref, kBitCast, kTypeCast, kLengthOfArray, kSizeOf, kFunctionCall, kBadExpr, Readers, itemOf, readBinary, readUnary, readBoolean, readInteger, readString, readArrayLiteral, readStructural, readParenthesized, readDeref, readBitCast, readTypeCast, readLengthOfArray, readSizeOf, readFunctionCall, exprOf, stepOf, head, restOf, read, toStms, StmtKind, kDeclaration, kAssignment, kMethodCall, kLoop, kGoto, kLabel, kIf, kBlock, kBadStmt, elseOf, readDeclaration, readAssignment, readMethodCall, readJump, readIf, readBlock, stmtOf, stmtHead, readStmt, readBody, DeclKind, kConstant, kFunction, kFunctionHead, kStructure, kImport, kBadDecl, readConstant, readFunction, readFunctionHead, readStructure, readImport, declOf, readDecl, readTree, incoming, decode}
+use Rattle.penne.specs.Tree.{Spot, Poison, Maybe, ok, err, Kind, expr, ref, step, item, one, Node, stmt, Stm, Body, Decl, constant, function, functionHead, structure, import, badDecl, Tree}
+use Rattle.penne.specs.Reader.{Cur, got, Reader, _>>=_, ret, many, listed, tooDeep, nothing}
+use Rattle.penne.specs.Read.{ident, either, maybe, option, readTy, toNodes, ExprKind, kBinary, kUnary, kBoolean, kSigned, kBits, kString, kArrayLiteral, kStructural, kParenthesized, kDeref, kBitCast, kTypeCast, kLengthOfArray, kSizeOf, kFunctionCall, kBadExpr, Readers, itemOf, readBinary, readUnary, readBoolean, readInteger, readString, readArrayLiteral, readStructural, readParenthesized, readDeref, readBitCast, readTypeCast, readLengthOfArray, readSizeOf, readFunctionCall, exprOf, stepOf, head, restOf, read, toStms, StmtKind, kDeclaration, kAssignment, kMethodCall, kLoop, kGoto, kLabel, kIf, kBlock, kBadStmt, elseOf, readDeclaration, readAssignment, readMethodCall, readJump, readIf, readBlock, stmtOf, readStmt, readBody, DeclKind, kConstant, kFunction, kFunctionHead, kStructure, kImport, kBadDecl, readConstant, readFunction, readFunctionHead, readStructure, readImport, declOf, readDecl, readTree, incoming, decode}
 use Rattle.penne.specs.Order.{Rising, end}
 use Rattle.penne.specs.Standing.{Point, base, declares, other, Outline, empty, point, both, outline, outlineOption, outlineStm, outlineBody, anyType}
 use Rattle.penne.proofs.Leading.{Leads, leads-got, leads-bind, leads-deep}
-use Rattle.penne.proofs.IdsRead.{Costs, costs-such, costs-counting, costs-num, costs-below, costs-name, costs-place, costs-ident, costs-raw, costs-bytes, costs-poison, costs-maybe-none, costs-ty, costs-carried, costs-head, costs-params, costs-decl-head, costs-names, costs-tabled, costs-each, costs-tree, ended-got}
+use Rattle.penne.proofs.IdsRead.{Costs, costs-such, costs-counting, costs-num, costs-below, costs-place, costs-ident, costs-raw, costs-bytes, costs-poison, costs-maybe-none, costs-ty, costs-carried, costs-head, costs-params, costs-decl-head, costs-names, costs-tabled, costs-each, costs-tree, ended-got}
 use Rattle.penne.proofs.Rising.{rising-to, rising-from, rising-one, rising-append}
 
 -- OFFSETS IN A TREE

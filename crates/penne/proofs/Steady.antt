@@ -6,7 +6,6 @@ use mathlib.Core.Path.{_≡_, refl, sym, _∙_, ap}
 use mathlib.Core.List.{List, [], _∷_, _++_, append-assoc, append-nil}
 use mathlib.Core.Option.{Option, none, some}
 use lib.Dec.{eqb}
-use lib.ListN.{length}
 use borrow.Author.Tests.{eqb-true, eqb-false, ne-eqb}
 use Rattle.penne.specs.Tree.{Kind, Ident, Maybe, ok, err, Ty, plain, array, arrayWithNamedLength, arraylike, struct, word, unresolved, nameless, pointer, view, Sort, Node, nil, cons, binary, unary, boolean, signed, bits, string, arrayLiteral, structural, parenthesized, deref, bitCast, typeCast, lengthOfArray, sizeOf, functionCall, badExpr, reference, element, member, memberExpression}
 use Rattle.penne.specs.Find.{first, keep, firstNamed}

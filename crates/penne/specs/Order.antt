@@ -1,4 +1,4 @@
--- 01, "each once, in tree order": the records of the list by the offsets of their uses.
+-- Demand 3, "each once, in tree order": the records of the list by the offsets of their uses.
 use Prim.Native.Nat.{ℕ, _+_, _≤_}
 use mathlib.Core.Path.{_≡_}
 use mathlib.Core.List.{List, [], _∷_, map}

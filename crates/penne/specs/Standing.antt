@@ -148,13 +148,13 @@ pub record Agrees (n : Names) (f f′ : Body Spot) : Type 0 where
 -- the k-th declaration, a function with the body b, is answered by a function whose body agrees with b
 pub record Agreement (names : List (List ℕ)) (ds : List (Decl Spot)) (k : ℕ) (ps : List (Param Spot)) (b : Body Spot) : Type 0 where
   pub flags : ℕ
-  pub place : Spot
   pub placeOfDeclaration : Spot
+  pub placeOfReturnType : Spot
   pub identifier : Ident Spot
   pub parameters : List (Param Spot)
   pub body : Body Spot
   pub type : Maybe Spot (Ty Spot)
-  pub answers : getElem? (analyzeAll names ds begin .0) k ≡ some (function flags place placeOfDeclaration identifier parameters (ok body) type)
+  pub answers : getElem? (analyzeAll names ds begin .0) k ≡ some (function flags placeOfDeclaration placeOfReturnType identifier parameters (ok body) type)
   pub agrees : Agrees (namesAt ds ps) b body
 
 -- the theorem to prove: so it is with every kept function that meets the premise

@@ -1,4 +1,4 @@
--- 01, "The skip list", and demand 3: what a walk is, and what the list has to say of it. Nothing here knows of pruning.
+-- 01, "The skip list", and demand 3: what a walk is, and what the list has to say of it. What comes before DEMAND 3 knows nothing of pruning.
 -- A function's body is laid out as the acts of its text, in the order in which they stand; a walk goes from act to act.
 use Prim.Native.Nat.{ℕ, suc, _+_}
 use mathlib.Core.Bool.{Bool, true, false, _&&_, not}
@@ -245,14 +245,14 @@ unfoldable pub isBody : {P : Type 0} → Maybe P (Body P) → Bool
 isBody (ok b) = true
 isBody (err z) = false
 
--- a function with a body, whose name is not among the earlier ones
-unfoldable pub hasBody : {P : Type 0} → (earlier : List ℕ) → Decl P → Bool
-hasBody e (constant f p q i x t) = false
-hasBody e (function f p q i ps b t) = not (isIn (i .name) e) && isBody b
-hasBody e (functionHead f p q i ps t) = false
-hasBody e (structure f p i ms t) = false
-hasBody e (import b p) = false
-hasBody e (badDecl z) = false
+-- a kept function with a body: its name is not among the earlier ones
+unfoldable pub isKept : {P : Type 0} → (earlier : List ℕ) → Decl P → Bool
+isKept e (constant f p q i x t) = false
+isKept e (function f p q i ps b t) = not (isIn (i .name) e) && isBody b
+isKept e (functionHead f p q i ps t) = false
+isKept e (structure f p i ms t) = false
+isKept e (import b p) = false
+isKept e (badDecl z) = false
 
 -- the name of a parameter that has one
 unfoldable pub paramNames : {P : Type 0} → Param P → List (ℕ × Target)
@@ -287,7 +287,7 @@ pub record Demand3 (names : List (List ℕ)) (ds : List (Decl Spot)) : Type 0 wh
       → premise (b .statements) ≡ true
       → NamesSkipped (bodyActs b (namesAt ds ps)) (offsets (getD (partsOf names ds) k []))
   -- what is no kept function with a body has an empty part
-  pub nothingElse : (k : ℕ) (d : Decl Spot) → getElem? ds k ≡ some d → hasBody (flatMap functionNames (take k ds)) d ≡ false → getD (partsOf names ds) k [] ≡ []
+  pub nothingElse : (k : ℕ) (d : Decl Spot) → getElem? ds k ≡ some d → isKept (flatMap functionNames (take k ds)) d ≡ false → getD (partsOf names ds) k [] ≡ []
   -- the list is its parts in turn
   pub whole : (analyzeAll names ds begin .1) .prunings .skips ≡ flatMap (λ part. part) (partsOf names ds)
 

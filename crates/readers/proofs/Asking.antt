@@ -3,13 +3,12 @@ use mathlib.Core.Path.{_≡_, refl, sym, ap, subst, _∙_}
 use mathlib.Core.Bool.{Bool, true, false}
 use mathlib.Core.List.{List, [], _∷_}
 use mathlib.Core.Option.{Option, none, some}
-use Prim.Native.Nat.{ℕ, zero, suc, _+_, _-_, _≤_, _<_}
+use Prim.Native.Nat.{ℕ, zero, suc, _-_, _≤_, _<_}
 use native.Mathlib.Omega.{arith}
 use native.Mathlib.Nat.{not-suc-le-zero, le-of-suc-le-suc}
 use lib.Dec.{ltb}
 use lib.ListN.{length, getD, getElem?}
-use borrow.Author.Tests.{lt-ltb}
-use Rattle.penne.specs.Reader.{Counts, Cur, Got, got, refused, Reader, _>>=_, ret, num, below, such, each, nothing}
+use Rattle.penne.specs.Reader.{Counts, Cur, Got, got, refused, ret, num, below, such, each}
 use Rattle.penne.specs.Tree.{Spot, Decl, Tree, constant, function, functionHead, structure, import, badDecl}
 use Rattle.penne.specs.Read.{answered, decode}
 use Rattle.penne.specs.Scoper.{Asked, told, untold, askDecl, askTree, ask, depthOr, getContainerDepth, isContainer}
@@ -24,7 +23,6 @@ use Rattle.tree.specs.Script.{refusalOf, refusal, Decoded, AnsweredLayout}
 use Rattle.fields.proofs.Back.{bind-case, many-length}
 use Rattle.readers.specs.declared.Depth.{Depth}
 use Rattle.readers.specs.declared.Depth.the-variants as D
-use Rattle.readers.specs.declared.Container.{Container}
 use Rattle.readers.specs.declared.Container.the-variants as C
 use Rattle.readers.specs.Asking.{depthAsked, containerAsked, unaskedBy, NthDepth}
 

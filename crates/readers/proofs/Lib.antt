@@ -1,3 +1,4 @@
 pub mod Asking
 pub mod Naming
+pub mod TheName
 pub mod Unique

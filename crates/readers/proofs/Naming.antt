@@ -12,9 +12,9 @@ use lib.Seq.{length-take-le}
 use borrow.Author.Tests.{ltb-true, leb-true}
 use Rattle.penne.specs.Reader.{Counts, Cur, Got, got, refused, Reader, _>>=_, ret, num, below, such, raw, bytes, moved, many, listed, plus, fits, counted, counting, nothing}
 use Rattle.penne.specs.Tree.{Spot, Ident, Decl, Tree, Param, Maybe, Ty, structure}
-use Rattle.penne.specs.Read.{place, name, ident, maybe, readTy, readParam, readStructure, DeclKind, declKinds, kConstant, kFunction, kFunctionHead, kStructure, kImport, kBadDecl, readConstant, readFunction, readFunctionHead, readImport, declOf, declHead, declCounts, readDecl, readNames, amongNames}
+use Rattle.penne.specs.Read.{place, name, ident, maybe, readTy, readParam, readStructure, declKinds, kBadDecl, readConstant, readFunction, readFunctionHead, readImport, declOf, declHead, declCounts, readDecl, readNames, amongNames}
 use Rattle.penne.specs.Write.{numB, bytesB}
-use Rattle.penne.specs.Scoper.{Asked, told, untold, askDecl, ask, nameFrom, structureName, getStructureName}
+use Rattle.penne.specs.Scoper.{Asked, told, askDecl, nameFrom, structureName, getStructureName}
 use Rattle.penne.proofs.Leading.{never, same-value, same-cur}
 use Rattle.penne.proofs.Booleans.{and-right, some-same, none-some}
 use Rattle.fields.specs.declared.number.Read.{Read}
@@ -238,7 +238,7 @@ width n _ = ltb 0 n && ltb n 65
 abbrev new : List (List ℕ) → List ℕ → Cur → Bool
 new before b _ = not (amongNames b before)
 
-read-table : (count : ℕ) (before : List (List ℕ)) (s : List ℕ) (c : Cur) {ns : List (List ℕ)} {d : Cur} → readNames count before s c ≡ got ns d → Rest s count before c ns
+pub read-table : (count : ℕ) (before : List (List ℕ)) (s : List ℕ) (c : Cur) {ns : List (List ℕ)} {d : Cur} → readNames count before s c ≡ got ns d → Rest s count before c ns
 unfolding readNames such ret
 read-table zero before s c e = record { names = []; is = sym (same-value e) ∙ sym (append-nil before); many = refl; table = none′ }
 read-table (suc count) before s c {ns} e =

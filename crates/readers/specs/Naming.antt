@@ -1,14 +1,14 @@
 -- get_structure_name, in the words of the definitions.
-use Prim.Native.Nat.{ℕ, _+_, _<_}
+use Prim.Native.Nat.{ℕ, _+_, _≤_, _<_}
 use mathlib.Core.Path.{_≡_}
 use mathlib.Core.List.{List, [], flatMap}
 use mathlib.Core.Option.{some}
 use lib.ListN.{length, getD, take, getElem?}
 use Rattle.penne.specs.Reader.{Counts, Cur, got, many, nothing}
-use Rattle.penne.specs.Tree.{Spot, Decl, Tree}
-use Rattle.penne.specs.Read.{readDecl, readNames}
+use Rattle.penne.specs.Tree.{Spot, Ident, Maybe, Ty, Param, Decl, structure, Tree}
+use Rattle.penne.specs.Read.{readDecl, readNames, decode, answered}
 use Rattle.penne.specs.Write.{bytesB}
-use Rattle.penne.specs.Scoper.{Asked, told, untold, nameFrom, structureName}
+use Rattle.penne.specs.Scoper.{Asked, told, untold, nameFrom, structureName, getStructureName}
 use Rattle.fields.specs.Answers.{cursor}
 use Rattle.name_table.specs.Names.{part}
 use Rattle.tree.specs.declared.script.Laid.{Laid}
@@ -26,6 +26,10 @@ nameAsked (N.Refused n p) = untold n p
 unfoldable pub partTold : List ℕ → Asked (ℕ × ℕ) → List ℕ
 partTold s (told p) = part s (p .0) (p .1)
 partTold s (untold n p) = []
+
+-- "the name as a part of the tree that was lent": of a structure, the bytes told are its name
+abbrev pub Tells-the-name : Type 0
+Tells-the-name = (s : List ℕ) (k : ℕ) (t : Tree Spot) (c : Cur) (f : ℕ) (p : Spot) (i : Ident Spot) (ms : List (Param Spot)) (y : Maybe Spot (Ty Spot)) → length s ≤ 65535 → decode answered s ≡ got t c → getElem? (t .decls) k ≡ some (structure f p i ms y) → partTold s (getStructureName s k) ≡ getD (t .names) (i .name) []
 
 -- a refusal passed on
 abbrev pub unnamedBy : Laid → Named

@@ -5,6 +5,7 @@
 // Prints a line for each case that differs, then how many cases there were and how many differed.
 use libc::STDOUT_FILENO;
 use memory::bytes::byte;
+use memory::words::next;
 use memory::words::word;
 use scoper::Scoped;
 ghost use Prim.Native.Nat.{_≤_};
@@ -38,10 +39,6 @@ enum Part {
     Tail,
     List,
     Work,
-}
-
-fn one_more(n: u32) -> u32 {
-    if n < 4294967295 { n + 1 } else { n }
 }
 
 fn least(a: usize, b: usize) -> usize
@@ -268,7 +265,7 @@ fn name_of(part: Part) {
 }
 
 fn counted(count: Count, part: Part) -> Count {
-    let cases = one_more(count.cases);
+    let cases = next(count.cases);
     match part {
         Part::Nothing => Count {
             cases: cases,
@@ -281,7 +278,7 @@ fn counted(count: Count, part: Part) -> Count {
             name_of(part);
             Count {
                 cases: cases,
-                differ: one_more(count.differ),
+                differ: next(count.differ),
             }
         }
     }

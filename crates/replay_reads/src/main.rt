@@ -19,10 +19,6 @@ struct Replay {
     differ: u32,
 }
 
-fn one_more(n: u32) -> u32 {
-    if n < 4294967295 { n + 1 } else { n }
-}
-
 fn with_digit(n: u32, byte: u8) -> u32 {
     if byte < 48 {
         return n;
@@ -103,7 +99,7 @@ fn read(tree: &[u8], answered: bool) -> Verdict {
 // The end of a line: the tree is read, and the verdict compared.
 fn compared(r: Replay, tree: &[u8]) -> Replay {
     let mut next = r;
-    next.cases = one_more(r.cases);
+    next.cases = memory::words::next(r.cases);
     next.field = 0;
     next.number = 0;
     next.place = 0;
@@ -113,12 +109,12 @@ fn compared(r: Replay, tree: &[u8]) -> Replay {
     let verdict = read(bytes_at(tree, 0, r.length), r.answered);
     if number_of(verdict) != r.number {
         print_case(next.cases, b": wanted number ", r.number, verdict);
-        next.differ = one_more(r.differ);
+        next.differ = memory::words::next(r.differ);
         return next;
     }
     if place_of(verdict) != r.place as usize {
         print_case(next.cases, b": wanted place ", r.place, verdict);
-        next.differ = one_more(r.differ);
+        next.differ = memory::words::next(r.differ);
     }
     next
 }
@@ -130,7 +126,7 @@ fn step(r: Replay, tree: &mut [u8], byte: u8) -> Replay {
     }
     let mut next = r;
     if byte == 32 {
-        next.field = one_more(r.field);
+        next.field = memory::words::next(r.field);
         return next;
     }
     if byte == 97 {

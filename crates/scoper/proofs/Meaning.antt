@@ -4,29 +4,31 @@ use native.Mathlib.Omega.{arith}
 use mathlib.Core.Bool.{Bool, true, false, _&&_, not}
 use mathlib.Core.Path.{_≡_, refl, sym, ap, subst, _∙_}
 use mathlib.Core.List.{List, [], _∷_, _++_, map, flatMap, map-append}
-use mathlib.Core.Option.{Option, none, some}
+use mathlib.Core.Option.{some}
 use lib.Dec.{ltb, leb}
-use lib.ListN.{length, getD, take, getElem?}
+use lib.ListN.{length, length-map, getD, take, getElem?}
 use Rattle.penne.specs.Reader.{Cur, Got, got, refused}
 use Rattle.penne.specs.Read.{decode, incoming}
 use Rattle.penne.specs.Write.{encode}
 use Rattle.penne.specs.Find.{isIn}
 use Rattle.penne.specs.Labels.{Labels, labelsDecl, labelsDecls, labelsBody, labelReferences}
 use Rattle.penne.specs.Pruning.{offsets}
-use Rattle.penne.specs.Variables.{postanalyzed}
+use Rattle.penne.specs.State as S′
+use Rattle.penne.specs.Scopes.{Analyzer}
+use Rattle.penne.specs.Variables.{inTurn, predeclare, analyzeDecl, postanalyzed}
 use Rattle.penne.specs.Tree.{Spot, Maybe, ok, err, Param, Body, Decl, constant, function, functionHead, structure, import, badDecl, Tree}
 use Rattle.penne.specs.Scoper.{Answer, answer, refusal, analyze, answeredTree, skipList, answerTo, words, ifRoom, scopedAnswer, padded, outcome, scoped, Outcome}
-use Rattle.penne.specs.Walks.{bodyActs, namesAt, premise, functionNames, isBody, hasBody, partsOf, NamesSkipped}
+use Rattle.penne.specs.Walks.{bodyActs, namesAt, premise, functionNames, isBody, isKept, parts as partsIn, partsOf, NamesSkipped}
 use Rattle.penne.specs.Order.{Rising}
 use Rattle.penne.proofs.Demand3.{demand3}
 use Rattle.penne.proofs.InOrder.{in-tree-order}
 use Rattle.penne.proofs.Incoming.{same-functions, promised}
-use Rattle.penne.proofs.IdsGiven.{ids-few}
+use Rattle.penne.proofs.IdsGiven.{ids-few, ids-given as counted-ids}
 use Rattle.penne.proofs.PlaceRule.{place-rule}
 use Rattle.scoper.specs.declared.Scoped.{Scoped}
 use Rattle.scoper.specs.declared.Scoped.the-variants as S
-use Rattle.scoper.specs.Scoping.{outcomeOf, scopedBy, Scopes}
-use Rattle.scoper.specs.Meaning.{Call, Answered, Answers, Zeroed, Refusals, Function, Kept, InFunction, Lists, Skip-lists, Ids-given, tells, LentAlike, SameButPlaces, Places-do-not-matter}
+use Rattle.scoper.specs.Scoping.{outcomeOf, scopedBy}
+use Rattle.scoper.specs.Meaning.{Call, answerOf, Answered, Answers, RefusedBy, Refusals, Kept, InFunction, Skip-lists, Ids-given, tells, Places-do-not-matter}
 use Rattle.scoper.proofs.Unique.{list-is}
 
 -- THE ANSWER IS A SCRIPT'S
@@ -78,6 +80,7 @@ module _ (c : Call) where
         script = a .script;
         behind = a .behind;
         came = a .came;
+        by = e ∙ (λ t. answer (a .tree t) (a .list t));
         bytes-are = b ∙ ap length (a .tree);
         records-are = k ∙ ap length (a .list);
         answer-is = ap (λ (q : Outcome). q .tree) g ∙ ap (padded (length (c .answer))) (a .tree);
@@ -85,10 +88,10 @@ module _ (c : Call) where
         work-is = ap (λ (q : Outcome). q .work) g;
       }
 
-  zeroed : {number place : ℕ} (a : Answer) → S.Refused number place ≡ scopedBy a → outcomeOf (S.Refused number place) (c .answer′) (c .list′) (c .work′) ≡ outcome (length (c .answer)) (length (c .list)) (length (c .work)) a → Zeroed c
+  zeroed : {number place : ℕ} (a : Answer) → answerOf c ≡ a → S.Refused number place ≡ scopedBy a → outcomeOf (S.Refused number place) (c .answer′) (c .list′) (c .work′) ≡ outcome (length (c .answer)) (length (c .list)) (length (c .work)) a → RefusedBy c number place
   unfolding scopedBy outcome outcomeOf
-  zeroed (answer x rs) f g = absurd (let z : _≡_ {A = ℕ} 0 1 = cc in omega arith)
-  zeroed (refusal k p) f g = record { answer-is = ap (λ (q : Outcome). q .tree) g; list-is = ap (λ (q : Outcome). q .list) g; work-is = ap (λ (q : Outcome). q .work) g }
+  zeroed (answer x rs) e f g = absurd (let z : _≡_ {A = ℕ} 0 1 = cc in omega arith)
+  zeroed {number} {place} (refusal k p) e f g = record { by = e ∙ (let z : refusal k p ≡ refusal number place = cc in z); answer-is = ap (λ (q : Outcome). q .tree) g; list-is = ap (λ (q : Outcome). q .list) g; work-is = ap (λ (q : Outcome). q .work) g }
 
 pub answers : Answers
 unfolding scoped
@@ -96,7 +99,7 @@ answers c bytes records e = answered c _ refl (sym e ∙ c .meets .told) (ap (λ
 
 pub refusals : Refusals
 unfolding scoped
-refusals c number place e = zeroed c _ (sym e ∙ c .meets .told) (ap (λ (r : Scoped). outcomeOf r (c .answer′) (c .list′) (c .work′)) (sym e) ∙ c .meets .outcome)
+refusals c number place e = zeroed c _ refl (sym e ∙ c .meets .told) (ap (λ (r : Scoped). outcomeOf r (c .answer′) (c .list′) (c .work′)) (sym e) ∙ c .meets .outcome)
 
 -- THE PARTS OF THE LIST
 
@@ -117,8 +120,8 @@ unfolding labelsBody isBody
 same-body (ok b) l = refl
 same-body (err z) l = refl
 
-same-kept : (e : List ℕ) (d : Decl Spot) (l : Labels Spot) → hasBody e (labelsDecl d l .0) ≡ hasBody e d
-unfolding labelsDecl hasBody
+same-kept : (e : List ℕ) (d : Decl Spot) (l : Labels Spot) → isKept e (labelsDecl d l .0) ≡ isKept e d
+unfolding labelsDecl isKept
 same-kept e (constant f p q i x t) l = refl
 same-kept e (function f p q i ps b t) l = ap (λ (y : Bool). not (isIn (i .name) e) && y) (same-body b l)
 same-kept e (functionHead f p q i ps t) l = refl
@@ -130,15 +133,31 @@ same-kept e (badDecl z) l = refl
 record Labelled (ds′ : List (Decl Spot)) (k : ℕ) (d : Decl Spot) : Type 0 where
   after : Decl Spot
   is : getElem? ds′ k ≡ some after
-  kept : (e : List ℕ) → hasBody e after ≡ hasBody e d
+  kept : (e : List ℕ) → isKept e after ≡ isKept e d
 
 labelled-at : (ds : List (Decl Spot)) (l : Labels Spot) (k : ℕ) (d : Decl Spot) → getElem? ds k ≡ some d → Labelled (labelsDecls ds l .0) k d
 unfolding labelsDecls
 labelled-at [] l k d h = absurd (let z : _≡_ {A = ℕ} 0 1 = cc in omega arith)
 labelled-at (x ∷ ds) l zero d h =
     let z : x ≡ d = cc in
-    record { after = labelsDecl x l .0; is = refl; kept = λ e. same-kept e x l ∙ ap (hasBody e) z }
+    record { after = labelsDecl x l .0; is = refl; kept = λ e. same-kept e x l ∙ ap (isKept e) z }
 labelled-at (x ∷ ds) l (suc k) d h = let r = labelled-at ds (labelsDecl x l .1) k d h in record { after = r .after; is = r .is; kept = r .kept }
+
+-- neither pass changes how many declarations there are
+long-labelled : (ds : List (Decl Spot)) (l : Labels Spot) → length (labelsDecls ds l .0) ≡ length ds
+unfolding labelsDecls
+long-labelled [] l = refl
+long-labelled (d ∷ ds) l = ap suc (long-labelled ds (labelsDecl d l .1))
+
+long-predeclared : (ds : List (Decl Spot)) (a : Analyzer Spot) → length (inTurn predeclare ds a .0) ≡ length ds
+unfolding inTurn S′._>>=_ S′.ret
+long-predeclared [] a = refl
+long-predeclared (d ∷ ds) a = ap suc (long-predeclared ds (predeclare d a .1))
+
+long-passed : (names : List (List ℕ)) (ds : List (Decl Spot)) (a : Analyzer Spot) → length (partsIn names ds a) ≡ length ds
+unfolding partsIn
+long-passed names [] a = refl
+long-passed names (d ∷ ds) a = ap suc (long-passed names ds (analyzeDecl names d a .1))
 
 module _ (script : Tree Spot) where
   -- the records that each declaration adds to the list
@@ -153,32 +172,39 @@ module _ (script : Tree Spot) where
   unfolding skipList analyze offsets parts partsOf
   whole-list = ap (map (λ r. ((r .0) .from, (r .1) .from))) (demand3 (script .names) (script .decls) .whole) ∙ parts-map _ _
 
-  nothing-else : (k : ℕ) (d : Decl Spot) → getElem? (script .decls) k ≡ some d → hasBody (flatMap functionNames (take k (script .decls))) d ≡ false → getD parts k [] ≡ []
+  -- one for each declaration
+  long-parts : length parts ≡ length (script .decls)
+  unfolding parts partsOf labelReferences
+  long-parts = length-map (partsOf (script .names) (labelReferences (script .decls))) offsets ∙ long-passed (script .names) _ _ ∙ long-predeclared (labelReferences (script .decls)) _ ∙ long-labelled (script .decls) _
+
+  nothing-else : (k : ℕ) (d : Decl Spot) → getElem? (script .decls) k ≡ some d → isKept (flatMap functionNames (take k (script .decls))) d ≡ false → getD parts k [] ≡ []
   unfolding labelReferences offsets
   nothing-else k d h e =
       let r = labelled-at (script .decls) (record { labelStack = []; resolutionId = 1 }) k d h in
-      let f = ap (λ (fs : List ℕ). hasBody fs (r .after)) (same-functions (script .decls) k (record { labelStack = []; resolutionId = 1 })) ∙ r .kept _ ∙ e in
+      let f = ap (λ (fs : List ℕ). isKept fs (r .after)) (same-functions (script .decls) k (record { labelStack = []; resolutionId = 1 })) ∙ r .kept _ ∙ e in
       part-at k ∙ ap offsets (demand3 (script .names) (script .decls) .nothingElse k (r .after) (r .is) f)
 
   in-function : (k : ℕ) (ps : List (Param Spot)) (b : Body Spot) → Kept (script .decls) k ps b → premise (b .statements) ≡ true → InFunction script k ps (getD parts k [])
   unfolding answeredTree analyze postanalyzed
   in-function k ps b h e =
       let f = h .at in
-      let r = promised (script .names) (script .decls) k (f .flags) (f .place) (f .placeOfDeclaration) (f .identifier) ps b (f .type) (f .is) (h .first) e in
+      let r = promised (script .names) (script .decls) k (f .flags) (f .placeOfDeclaration) (f .placeOfReturnType) (f .identifier) ps b (f .type) (f .is) (h .first) e in
       let a = r .agrees in
       record {
         resolved = r .body;
-        passed = record { flags = f .flags; place = f .place; placeOfDeclaration = f .placeOfDeclaration; identifier = f .identifier; type = f .type; is = r .passed };
+        passed = record { flags = f .flags; placeOfDeclaration = f .placeOfDeclaration; placeOfReturnType = f .placeOfReturnType; identifier = f .identifier; type = f .type; is = r .passed };
         listed = subst (λ (rs : List (ℕ × ℕ)). NamesSkipped (bodyActs (r .body) (namesAt (labelReferences (script .decls)) ps)) rs) (sym (part-at k)) (r .listed);
         parameters = a .parameters;
         body = a .body;
-        answered = record { flags = a .flags; place = a .place; placeOfDeclaration = a .placeOfDeclaration; identifier = a .identifier; type = a .type; is = a .answers };
+        answered = record { flags = a .flags; placeOfDeclaration = a .placeOfDeclaration; placeOfReturnType = a .placeOfReturnType; identifier = a .identifier; type = a .type; is = a .answers };
         agrees = a .agrees;
       }
 
 pub skip-lists : Skip-lists
 skip-lists c bytes records a = record {
   parts = parts (a .script);
+  long = long-parts (a .script);
+  records = whole-list (a .script);
   whole = a .list-is ∙ ap (λ (rs : List (ℕ × ℕ)). padded (length (c .list)) (words rs)) (whole-list (a .script));
   ordered = subst (λ (rs : List (ℕ × ℕ)). Rising 0 (length (c .tree)) (map (λ r. r .0) rs)) (whole-list (a .script)) (in-tree-order (c .tree) (a .script) (a .behind) (a .came));
   functions = in-function (a .script);
@@ -188,7 +214,8 @@ skip-lists c bytes records a = record {
 -- IDS
 
 pub ids-given : Ids-given
-ids-given c bytes records a = ids-few (c .tree) (a .came)
+unfolding answeredTree postanalyzed
+ids-given c bytes records a = record { counted = counted-ids (a .script .names) (a .script .decls); few = ids-few (c .tree) (a .came) }
 
 -- PLACES
 

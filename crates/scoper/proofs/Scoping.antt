@@ -1,5 +1,5 @@
 -- The scoping call: what the passes leave is the definition's answer, and what is cleared is all the rest.
-use Prim.Native.Nat.{ℕ, zero, suc, _+_, _*_, _-_, _/_, _≤_, _<_}
+use Prim.Native.Nat.{ℕ, zero, _*_, _-_, _/_, _≤_, _<_}
 use native.Mathlib.Omega.{arith}
 use mathlib.Core.Path.{_≡_, refl, sym, ap, subst, _∙_}
 use mathlib.Core.Bool.{Bool, true, false, not}
@@ -13,11 +13,11 @@ use Rattle.penne.specs.Reader.{Got, got, refused}
 use Rattle.penne.specs.Read.{decode, incoming}
 use Rattle.penne.specs.Tree.{Spot, Tree}
 use Rattle.penne.specs.Write.{encode}
-use Rattle.penne.specs.Scoper.{Answer, answer, refusal, analyze, answeredTree, skipList, answerTo, words, ifRoom, scopedAnswer, Outcome, padded, outcome, scoped}
+use Rattle.penne.specs.Scoper.{Answer, answer, refusal, answeredTree, skipList, answerTo, words, ifRoom, scopedAnswer, padded, outcome, scoped}
 use Rattle.tree.specs.declared.script.Layout.{Layout}
 use Rattle.tree.specs.declared.script.Laid.{Laid}
 use Rattle.tree.specs.declared.script.Laid.the-variants as D
-use Rattle.tree.specs.Script.{LaidOut, DecodedAs, IncomingLayout, refusalOf}
+use Rattle.tree.specs.Script.{LaidOut, IncomingLayout, refusalOf}
 use Rattle.tree.specs.Script as R
 use Rattle.memory.specs.Lent.{cleared}
 use Rattle.answer.specs.declared.wrote.Wrote.{Wrote}

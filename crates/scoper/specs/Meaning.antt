@@ -1,5 +1,5 @@
 -- What the promise of `analyze` means for whoever calls it, said of what was lent. All of it is proved of every call that meets the promise, and `analyze` always meets it: proofs/Meaning.
-use Prim.Native.Nat.{ℕ}
+use Prim.Native.Nat.{ℕ, _+_}
 use mathlib.Core.Bool.{true, false}
 use mathlib.Core.Path.{_≡_}
 use mathlib.Core.List.{List, [], map, flatMap}
@@ -11,11 +11,11 @@ use Rattle.penne.specs.Write.{encode}
 use Rattle.penne.specs.Find.{isIn}
 use Rattle.penne.specs.Labels.{labelReferences}
 use Rattle.penne.specs.Tree.{Spot, Ident, Maybe, ok, Ty, Param, Body, Decl, function, Tree}
-use Rattle.penne.specs.Scoper.{answeredTree, skipList, words, padded}
-use Rattle.penne.specs.Walks.{bodyActs, namesAt, premise, functionNames, hasBody, NamesSkipped}
+use Rattle.penne.specs.Scoper.{Answer as Scoped-answer, answer, refusal, scopedAnswer, answeredTree, skipList, words, padded}
+use Rattle.penne.specs.Walks.{bodyActs, namesAt, premise, functionNames, isKept, NamesSkipped}
 use Rattle.penne.specs.Standing.{Agrees}
 use Rattle.penne.specs.Order.{Rising}
-use Rattle.penne.specs.Ids.{Given}
+use Rattle.penne.specs.Ids.{idsDecls, idsLabelsDecls, Given}
 use Rattle.penne.specs.PlaceRule.{DifferInPlaces, SameAnswers}
 use Rattle.scoper.specs.declared.Scoped.{Scoped}
 use Rattle.scoper.specs.declared.Scoped.the-variants.{Answer, Refused}
@@ -35,11 +35,16 @@ pub record Call : Type 0 where
 
 -- EVERY CALL ENDS, WITH AN ANSWER OR WITH A REFUSAL (demands 1 and 2)
 
+-- what the table of refusals and both passes say of the tree's bytes and of how much was lent: which of the two it is, and the refusal's number and place
+abbrev pub answerOf : Call → Scoped-answer
+answerOf c = scopedAnswer (c .tree) (length (c .answer)) (length (c .list)) (length (c .work))
+
 -- an answer: the tree is the bytes of a script; what was lent begins with the bytes of the answered script and with the words of its skip list, and behind them all is zero
 pub record Answered (c : Call) (bytes records : ℕ) : Type 0 where
   pub script : Tree Spot
   pub behind : Cur
   pub came : decode incoming (c .tree) ≡ got script behind
+  pub by : answerOf c ≡ answer (encode (answeredTree script)) (skipList script)
   pub bytes-are : bytes ≡ length (encode (answeredTree script))
   pub records-are : records ≡ length (skipList script)
   pub answer-is : c .answer′ ≡ padded (length (c .answer)) (encode (answeredTree script))
@@ -49,25 +54,26 @@ pub record Answered (c : Call) (bytes records : ℕ) : Type 0 where
 abbrev pub Answers : Type 0
 Answers = (c : Call) (bytes records : ℕ) → c .told ≡ Answer bytes records → Answered c bytes records
 
--- "After a refusal answer, list and work memory hold only zeros."
-pub record Zeroed (c : Call) : Type 0 where
+-- a refusal: number and place are the table's, and "after a refusal answer, list and work memory hold only zeros"
+pub record RefusedBy (c : Call) (number place : ℕ) : Type 0 where
+  pub by : answerOf c ≡ refusal number place
   pub answer-is : c .answer′ ≡ padded (length (c .answer)) []
   pub list-is : c .list′ ≡ padded (length (c .list)) []
   pub work-is : c .work′ ≡ padded (length (c .work)) []
 
 abbrev pub Refusals : Type 0
-Refusals = (c : Call) (number place : ℕ) → c .told ≡ Refused number place → Zeroed c
+Refusals = (c : Call) (number place : ℕ) → c .told ≡ Refused number place → RefusedBy c number place
 
 -- THE SKIP LIST, AND WHAT STANDS IN THE ANSWER (demand 3, and the agreement)
 
 -- the k-th of the declarations is a function with these parameters and this body
 pub record Function (ds : List (Decl Spot)) (k : ℕ) (ps : List (Param Spot)) (b : Body Spot) : Type 0 where
   pub flags : ℕ
-  pub place : Spot
   pub placeOfDeclaration : Spot
+  pub placeOfReturnType : Spot
   pub identifier : Ident Spot
   pub type : Maybe Spot (Ty Spot)
-  pub is : getElem? ds k ≡ some (function flags place placeOfDeclaration identifier ps (ok b) type)
+  pub is : getElem? ds k ≡ some (function flags placeOfDeclaration placeOfReturnType identifier ps (ok b) type)
 
 -- a kept function: with no function or head of its name before it
 pub record Kept (ds : List (Decl Spot)) (k : ℕ) (ps : List (Param Spot)) (b : Body Spot) : Type 0 where
@@ -90,21 +96,28 @@ pub record InFunction (script : Tree Spot) (k : ℕ) (ps : List (Param Spot)) (p
 -- the list is made of parts, one for each declaration
 pub record Lists (c : Call) (script : Tree Spot) : Type 0 where
   pub parts : List (List (ℕ × ℕ))
+  pub long : length parts ≡ length (script .decls)
+  pub records : skipList script ≡ flatMap (λ part. part) parts
   pub whole : c .list′ ≡ padded (length (c .list)) (words (flatMap (λ part. part) parts))
   -- each once, in tree order: the offsets of the uses are offsets of the input, and each is greater than the one before it
   pub ordered : Rising 0 (length (c .tree)) (map (λ r. r .0) (flatMap (λ part. part) parts))
   -- "In every kept function in which no branch of an if is itself a declaration or a label"
   pub functions : (k : ℕ) (ps : List (Param Spot)) (b : Body Spot) → Kept (script .decls) k ps b → premise (b .statements) ≡ true → InFunction script k ps (getD parts k [])
   -- what is no kept function with a body has no part in it
-  pub others : (k : ℕ) (d : Decl Spot) → getElem? (script .decls) k ≡ some d → hasBody (flatMap functionNames (take k (script .decls))) d ≡ false → getD parts k [] ≡ []
+  pub others : (k : ℕ) (d : Decl Spot) → getElem? (script .decls) k ≡ some d → isKept (flatMap functionNames (take k (script .decls))) d ≡ false → getD parts k [] ≡ []
 
 abbrev pub Skip-lists : Type 0
 Skip-lists = (c : Call) (bytes records : ℕ) → (a : Answered c bytes records) → Lists c (a .script)
 
 -- IDS: "Label ids and variable ids count separately from 1. No id given out exceeds the input's length in bytes."
 
+pub record Numbered (c : Call) (script : Tree Spot) : Type 0 where
+  -- variable ids from 1 on, at most as many as the script has declared names, arrays and bodies; label ids from 1 on, at most as many as it has labels
+  pub counted : Given (1 + idsDecls (script .decls)) (1 + idsLabelsDecls (script .decls)) (answeredTree script .decls)
+  pub few : Given (length (c .tree)) (length (c .tree)) (answeredTree script .decls)
+
 abbrev pub Ids-given : Type 0
-Ids-given = (c : Call) (bytes records : ℕ) → (a : Answered c bytes records) → Given (length (c .tree)) (length (c .tree)) (answeredTree (a .script) .decls)
+Ids-given = (c : Call) (bytes records : ℕ) → (a : Answered c bytes records) → Numbered c (a .script)
 
 -- THE PLACE RULE: "Two trees that differ only in place numbers of equal byte count get the same refusals, lengths, ids, depths and list."
 

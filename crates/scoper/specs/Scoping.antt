@@ -1,7 +1,7 @@
 -- What the scoping call promises, and its parts.
 use Prim.Native.Nat.{ℕ, _≤_}
 use mathlib.Core.Path.{_≡_}
-use mathlib.Core.List.{List, []}
+use mathlib.Core.List.{List}
 use lib.ListN.{length}
 use Rattle.penne.specs.Write.{encode}
 use Rattle.penne.specs.Scoper.{Answer, answer, refusal, answeredTree, skipList, words, ifRoom, scopedAnswer, Outcome, scoped}

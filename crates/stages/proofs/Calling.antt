@@ -1,27 +1,23 @@
 -- What is read behind the head of a declaration.
-use Prim.Native.Nat.{ℕ, zero, suc, _+_, _≤_, _<_}
+use Prim.Native.Nat.{ℕ, _<_}
 use mathlib.Core.Path.{_≡_, refl, sym, ap, subst, _∙_}
-use mathlib.Core.Bool.{Bool, true, false, _&&_}
-use mathlib.Core.List.{List, [], _∷_}
+use mathlib.Core.Bool.{true}
+use mathlib.Core.List.{List}
 use native.Mathlib.Omega.{arith}
-use lib.Dec.{ltb, leb}
+use lib.Dec.{ltb}
 use lib.ListN.{getD}
-use borrow.Author.Tests.{ltb-true, leb-true}
-use Rattle.penne.specs.Reader.{Counts, Cur, Got, got, refused, Reader, _>>=_, ret, such, num, below, plus, fits, counted, counting}
+use borrow.Author.Tests.{ltb-true}
+use Rattle.penne.specs.Reader.{Counts, Cur, Got, got, refused, _>>=_, ret, such, num, below, plus, fits, counted, counting}
 use Rattle.penne.specs.Tree.{Spot, Ident, Maybe, Ty, Expr, Param, Body, Poison, Decl, constant, function, functionHead, structure, import, badDecl}
 use Rattle.penne.specs.Read.{DeclKind, readDecl, declHead, declOf, declCounts, declKinds, kBadDecl, readConstant, readFunction, readFunctionHead, readStructure, readImport}
 use Rattle.fields.specs.declared.number.Read.{Read}
 use Rattle.fields.specs.declared.number.Read.the-variants.{Number, Refused}
 use Rattle.fields.specs.Answers.{cursor, numberOf, Gives}
-use Rattle.fields.proofs.Chain.{reads}
-use Rattle.containers.proofs.Lists.{and-true}
 use Rattle.walk.specs.Walking.{Leads}
 use Rattle.walk.proofs.Leading.{never, bind-got, such-got, leads-bind, leads-counting, leads-got}
 use Rattle.stages.specs.declared.heads.Start.{Start}
-use Rattle.stages.specs.declared.heads.Head.{Head}
-use Rattle.stages.specs.declared.heads.Head.the-variants as H
-use Rattle.stages.specs.Heads.{Begins, Heads, own}
-use Rattle.stages.proofs.Parting.{four-kinds, leads-two, leads-one, told-named, told-import, told-poison, told-unread}
+use Rattle.stages.specs.Heads.{Begins, own}
+use Rattle.stages.proofs.Parting.{four-kinds, leads-two, leads-one}
 
 -- a declaration of that kind with the name i
 pub data Called (i : Ident Spot) : ℕ → Decl Spot → Type 0 where

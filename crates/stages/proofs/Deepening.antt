@@ -1,8 +1,8 @@
 -- The depths of the containers in the work words, and the depths that are written.
-use Prim.Native.Nat.{ℕ, zero, suc, _+_, _-_, _≤_, _<_}
+use Prim.Native.Nat.{ℕ, zero, suc, _≤_, _<_}
 use mathlib.Core.Path.{_≡_, refl, sym, ap, subst, _∙_}
 use mathlib.Core.Bool.{Bool, true, false, not, _&&_}
-use mathlib.Core.List.{List, [], _∷_, _++_, map, append-assoc, append-nil}
+use mathlib.Core.List.{List, [], _∷_, map}
 use mathlib.Core.Option.{Option, none, some}
 use native.Mathlib.Omega.{arith}
 use lib.Dec.{eqb}
@@ -10,46 +10,31 @@ use lib.ListN.{length, take, drop, length-drop}
 use lib.Seq.{length-take-le}
 use borrow.Author.Tests.{eq-eqb}
 use borrow.Rule.Slice.PartMut.{putMid}
-use Rattle.penne.specs.Reader.{Counts, Cur, Got, got, many, below, ret, nothing}
+use Rattle.penne.specs.Reader.{Counts, below}
 use Rattle.penne.specs.Tree.{Spot, Ident, Decl}
-use Rattle.penne.specs.Read.{readDecl}
-use Rattle.penne.specs.Write.{numB}
 use Rattle.penne.specs.Find.{first, firstNamed, keep}
-use Rattle.penne.specs.Containers.{Container, Containment, identifierOf, constants, structures, idOf, obtainContainerDepth}
+use Rattle.penne.specs.Containers.{Container, Containment, identifierOf, constants, structures, idOf}
 use Rattle.penne.proofs.Booleans.{some-same, none-some}
 use Rattle.fields.specs.declared.counts.Counts as C
-use Rattle.fields.specs.declared.counts.Passed.{Passed}
-use Rattle.fields.specs.declared.counts.Passed.the-variants as P
 use Rattle.fields.specs.declared.number.Read.{Read}
 use Rattle.fields.specs.declared.number.Read.the-variants.{Number, Refused}
-use Rattle.tree.specs.declared.script.Layout.{Layout}
-use Rattle.fields.specs.Answers.{cursor, countsOf, passedOf, Gives, Passes}
-use Rattle.tree.specs.Script.{LaidOut}
-use Rattle.fields.proofs.Back.{many-case}
-use Rattle.answer.specs.declared.wrote.Wrote.{Wrote}
-use Rattle.answer.specs.Out.{Put, Within}
-use Rattle.answer.proofs.Chain.{_▸_, put-none}
+use Rattle.fields.specs.Answers.{countsOf, Gives}
 use Rattle.containers.specs.declared.containers.Found.{Found}
 use Rattle.containers.specs.declared.containers.Found.the-variants.{At, Nothing}
 use Rattle.containers.specs.Table.{at, idAt, kindOf, Holds}
-use Rattle.containers.specs.Calls.{ofKind, foundIn, Finds}
+use Rattle.containers.specs.Calls.{ofKind, foundIn}
 use Rattle.containers.specs.Depths.{Determines, TellsDepth}
-use Rattle.label_references.specs.Pass.{uncounted}
 use Rattle.walk.specs.declared.state.Script.{Script}
 use Rattle.walk.specs.Walking.{containersIn}
 use Rattle.walk.specs.Calls.{FindsIn}
-use Rattle.walk.proofs.Leading.{same-value, same-cur}
 use Rattle.walk.proofs.Tables.{containers-here}
 use Rattle.stages.specs.declared.heads.Start.{Start}
 use Rattle.stages.specs.declared.heads.Head.{Head}
 use Rattle.stages.specs.declared.heads.Head.the-variants as H
-use Rattle.stages.specs.Heads.{rowsOf}
-use Rattle.stages.specs.Heads.{Heads, own}
-use Rattle.stages.specs.Stages.{DeterminesIn, unlessFound, rowDepth, RowOf, KeptDepth, NamedDepth, depthIn, Rowed, of-constant, of-function, of-head, of-structure, of-import, of-poison, DepthOf, depthsIn, AllRowed, all-none, all-more, SaysDepths}
+use Rattle.stages.specs.Heads.{Heads}
+use Rattle.stages.specs.Stages.{DeterminesIn, unlessFound, rowDepth, RowOf, KeptDepth, NamedDepth, depthIn, Rowed, of-constant, of-function, of-head, of-structure, DepthOf}
 use Rattle.stages.proofs.Parting.{told-named, told-import, told-poison, told-unread}
 use Rattle.stages.proofs.Calling.{Called, as-constant, as-function, as-head, as-structure, Nameless, an-import, a-poison, never-read, kind-low, kind-named, kind-import, kind-poison, kind-unread}
-use Rattle.stages.proofs.Sizing.{passing}
-use Rattle.stages.proofs.Predeclaring.{passed-to, passed-not}
 
 -- DETERMINED
 

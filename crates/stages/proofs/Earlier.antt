@@ -1,25 +1,21 @@
 -- Was the name declared before: what the search through the rows says of the rows before this one.
 use mathlib.Core.Path.{_≡_, refl, sym, ap, subst, _∙_}
-use mathlib.Core.Bool.{Bool, true, false}
 use mathlib.Core.List.{List}
 use mathlib.Core.Option.{Option, none, some}
 use Prim.Native.Nat.{ℕ, _≤_, _<_}
 use native.Mathlib.Omega.{arith}
-use lib.Dec.{ltb}
-use lib.ListN.{length, take}
 use borrow.Author.Tests.{lt-ltb, le-ltb}
 use Rattle.penne.specs.Tree.{Spot, Ident}
-use Rattle.penne.specs.Find.{firstNamed}
 use Rattle.fields.specs.declared.field.Identifier.{Identifier}
 use Rattle.containers.specs.declared.containers.Declared.{Declared}
 use Rattle.containers.specs.declared.containers.Found.{Found}
 use Rattle.containers.specs.declared.containers.Found.the-variants.{At, Nothing}
-use Rattle.containers.specs.Table.{at, kindOf}
-use Rattle.containers.specs.Calls.{before, foundIn, ofKind}
+use Rattle.containers.specs.Table.{at}
+use Rattle.containers.specs.Calls.{before, foundIn}
 use Rattle.containers.specs.Functions.{functionAt, functionIn}
 use Rattle.walk.specs.declared.state.Walk.{Walk}
 use Rattle.walk.specs.declared.fault.Fault.{Fault}
-use Rattle.walk.specs.Walking.{containersIn, functionsIn, Tables, duplicateFault}
+use Rattle.walk.specs.Walking.{duplicateFault}
 use Rattle.walk.specs.Calls.{FindsIn, ContainerAt, FindsFunctionIn, FunctionAt}
 use Rattle.stages.specs.declared.before.Before.{Before}
 use Rattle.stages.specs.declared.before.Before.the-variants as B

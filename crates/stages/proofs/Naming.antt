@@ -1,21 +1,21 @@
 -- The names are written as they came.
-use Prim.Native.Nat.{ℕ, zero, suc, _+_, _-_, _≤_, _<_}
+use Prim.Native.Nat.{ℕ, suc, _+_, _-_, _≤_, _<_}
 use mathlib.Core.Path.{_≡_, refl, sym, ap, subst, _∙_}
 use mathlib.Core.Bool.{Bool, true, false, not, _&&_}
 use mathlib.Core.List.{List, [], _∷_, _++_, append-assoc, append-nil, flatMap}
 use native.Mathlib.Omega.{arith}
 use lib.Dec.{ltb, leb}
-use lib.ListN.{length, getD, take, drop, length-append, length-drop}
+use lib.ListN.{length, take, drop, length-append, length-drop}
 use lib.Seq.{length-take-le}
 use borrow.Author.Tests.{ltb-true, leb-true}
-use Rattle.penne.specs.Reader.{Counts, Cur, Got, got, refused, Reader, _>>=_, ret, such, num, raw, moved, nothing}
+use Rattle.penne.specs.Reader.{Cur, Got, got, refused, _>>=_, ret, such, num, raw, moved, nothing}
 use Rattle.penne.specs.Read.{readNames, amongNames}
 use Rattle.penne.specs.Write.{numB, bytesB, listB}
 use Rattle.fields.specs.declared.number.Read.{Read}
 use Rattle.fields.specs.declared.number.Read.the-variants.{Number, Refused}
 use Rattle.tree.specs.declared.script.Layout.{Layout}
 use Rattle.fields.specs.Answers.{cursor, numberOf, Gives}
-use Rattle.tree.specs.Script.{LaidOut, start}
+use Rattle.tree.specs.Script.{LaidOut}
 use Rattle.name_table.proofs.Names.{refused-not}
 use Rattle.answer.specs.declared.wrote.Wrote.{Wrote}
 use Rattle.answer.specs.declared.wrote.Wrote.the-variants.{Bytes}

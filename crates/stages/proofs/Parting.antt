@@ -1,13 +1,13 @@
 -- What stands before a declaration's parts, along the decoder.
-use mathlib.Core.Path.{_≡_, refl, sym, ap, subst, _∙_}
+use mathlib.Core.Path.{_≡_, refl, sym, subst}
 use mathlib.Core.List.{List, _++_}
-use Prim.Native.Nat.{ℕ, zero, suc, _+_, _<_}
+use Prim.Native.Nat.{ℕ, zero, suc, _<_}
 use native.Mathlib.Omega.{arith}
 use lib.ListN.{getD}
-use Rattle.penne.specs.Reader.{Counts, Cur, got, Reader, _>>=_, num, below}
+use Rattle.penne.specs.Reader.{Counts, Cur, Reader, _>>=_, num, below}
 use Rattle.penne.specs.Tree.{Spot, Ident, Decl}
 use Rattle.penne.specs.Read.{place, ident, declOf, declKinds, kBadDecl, readConstant, readFunction, readFunctionHead, readStructure}
-use Rattle.penne.specs.Write.{numB, placeB}
+use Rattle.penne.specs.Write.{placeB}
 use Rattle.fields.specs.declared.number.Read.{Read}
 use Rattle.fields.specs.declared.number.Read.the-variants.{Number, Refused}
 use Rattle.fields.specs.declared.field.Identifier.{Identifier}
@@ -18,7 +18,7 @@ use Rattle.fields.proofs.Chain.{reads}
 use Rattle.answer.specs.Parts.{renumbered}
 use Rattle.walk.specs.Walking.{Leads}
 use Rattle.walk.proofs.Leading.{leads-read, leads-unread, leads-place, leads-unplace, leads-places, leads-unplaces, leads-identified, leads-unidentified}
-use Rattle.walk.proofs.Copying.{Spells, spells-is, spells-num, spelled-places}
+use Rattle.walk.proofs.Copying.{spells-is, spells-num, spelled-places}
 use Rattle.stages.specs.declared.heads.Start.{Start}
 use Rattle.stages.specs.declared.heads.Head.{Head}
 use Rattle.stages.specs.declared.heads.Head.the-variants as H

@@ -1,22 +1,22 @@
 -- What predeclaration leaves in the tables.
-use Prim.Native.Nat.{ℕ, zero, suc, _+_, _-_, _≤_, _<_, min}
+use Prim.Native.Nat.{ℕ, suc, _+_, _-_, _≤_, _<_, min}
 use mathlib.Core.Path.{_≡_, refl, sym, ap, subst, _∙_}
 use mathlib.Core.Bool.{Bool, true, false, _&&_}
 use mathlib.Core.List.{List, [], _∷_, _++_}
 use native.Mathlib.Nat.{min-eq-left}
 use native.Mathlib.Decide.{decLt}
 use native.Mathlib.Omega.{arith}
-use lib.Dec.{ltb, leb}
-use lib.ListN.{length, getD, take, drop, length-append, length-drop}
-use lib.Seq.{getD-take, getD-drop, length-take-le}
-use borrow.Author.Tests.{ltb-true, leb-true}
+use lib.Dec.{leb}
+use lib.ListN.{length, getD, drop, length-drop}
+use lib.Seq.{getD-take, length-take-le}
+use borrow.Author.Tests.{leb-true}
 use borrow.Rule.Slice.PartMut.{putMid, same-len-mid}
-use Rattle.penne.specs.Reader.{Counts, Cur, Got, got, refused, Reader, _>>=_, ret, num, such, below, many, plus, fits, counted, counting, nothing, aContainer, aFunction}
-use Rattle.penne.specs.Tree.{Spot, Ident, Decl, constant, function, functionHead, structure, import, badDecl}
-use Rattle.penne.specs.Read.{readDecl, declHead, declOf, declCounts, declKinds, kConstant, kFunction, kFunctionHead, kStructure, kImport, kBadDecl, readConstant, readFunction, readFunctionHead, readStructure, readImport}
+use Rattle.penne.specs.Reader.{Counts, Cur, Got, got, refused, _>>=_, ret, below, many, plus, fits, counted, nothing, aContainer, aFunction}
+use Rattle.penne.specs.Tree.{Spot, Ident, Decl, function}
+use Rattle.penne.specs.Read.{readDecl, declCounts, declKinds, kBadDecl}
 use Rattle.penne.specs.Find.{resolved}
 use Rattle.penne.specs.State as S
-use Rattle.penne.specs.Containers.{Container, Containment, idOf, pushContainer, withContainers}
+use Rattle.penne.specs.Containers.{Container, Containment, idOf, pushContainer}
 use Rattle.penne.specs.Scopes.{Analyzer, Scope, authoritative, nextId, withStack, withContainment, withFunctions, declareConstant, declareFunction, declareStruct, begin}
 use Rattle.penne.specs.Variables.{predeclare, inTurn}
 use Rattle.fields.specs.declared.counts.Counts as C
@@ -28,7 +28,6 @@ use Rattle.fields.specs.declared.number.Read.the-variants.{Number, Refused}
 use Rattle.tree.specs.declared.script.Layout.{Layout}
 use Rattle.fields.specs.Answers.{cursor, countsOf, identOf, forget, passedOf, Gives, Passes}
 use Rattle.tree.specs.Script.{LaidOut}
-use Rattle.fields.proofs.Chain.{reads}
 use Rattle.fields.proofs.Back.{many-case}
 use Rattle.containers.specs.Table.{at, idAt, kindOf, Holds}
 use Rattle.containers.specs.Calls.{Says, New, Pushes}
@@ -37,20 +36,20 @@ use Rattle.containers.proofs.Parts.{put-part, put-before}
 use Rattle.containers.proofs.Lists.{and-true}
 use Rattle.containers.proofs.Starting.{push-kept, push-last}
 use Rattle.label_references.specs.Pass.{uncounted}
-use Rattle.walk.specs.Walking.{containersIn, functionsIn, Leads}
-use Rattle.walk.proofs.Leading.{never, same-value, same-cur, leads-read, leads-unread, leads-bind, leads-counting, leads-got}
-use Rattle.walk.proofs.Tables.{containers-here, containers-functions, containers-long}
+use Rattle.walk.specs.Walking.{containersIn, functionsIn}
+use Rattle.walk.proofs.Leading.{never, same-value, same-cur}
+use Rattle.walk.proofs.Tables.{containers-here, containers-functions}
 use Rattle.penne.specs.Ids.{idsOwn, idsDecls}
 use Rattle.stages.specs.declared.heads.Start.{Start}
 use Rattle.stages.specs.declared.heads.Head.{Head}
 use Rattle.stages.specs.declared.heads.Head.the-variants as H
 use Rattle.stages.specs.declared.predeclare.Predeclared.{Predeclared}
 use Rattle.stages.specs.Heads.{rowsOf}
-use Rattle.stages.specs.Heads.{Begins, Heads, own}
+use Rattle.stages.specs.Heads.{Heads}
 use Rattle.stages.specs.Stages.{Above, declaredBy, PushedContainer, PushedFunction, Pushed, Tabled, Predeclares, PredeclaresAll}
 use Rattle.stages.proofs.Parting.{told-named, told-import, told-poison, told-unread}
 use Rattle.stages.proofs.Calling.{Called, as-constant, as-function, as-head, as-structure, Nameless, an-import, a-poison, never-read, kind-low, kind-named, kind-import, kind-poison, kind-unread, kind-fits}
-use Rattle.stages.proofs.Sizing.{Passing, passing}
+use Rattle.stages.proofs.Sizing.{passing}
 use Rattle.penne.proofs.IdsWhole.{next-own}
 use Rattle.stages.proofs.Bytes.{read-bytes}
 

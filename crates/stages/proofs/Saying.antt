@@ -1,10 +1,10 @@
 -- The names and the depths that are written.
-use Prim.Native.Nat.{ℕ, zero, suc, _+_, _-_, _≤_, _<_}
+use Prim.Native.Nat.{ℕ, suc, _+_, _-_, _≤_}
 use mathlib.Core.Path.{_≡_, refl, sym, ap, subst, _∙_}
 use mathlib.Core.List.{List, [], _∷_, _++_, append-assoc, append-nil, flatMap}
 use native.Mathlib.Omega.{arith}
 use lib.ListN.{length}
-use Rattle.penne.specs.Reader.{Counts, Cur, Got, got, many, ret, nothing}
+use Rattle.penne.specs.Reader.{Counts, Cur, got, many, ret, nothing}
 use Rattle.penne.specs.Tree.{Spot, Decl}
 use Rattle.penne.specs.Read.{readDecl}
 use Rattle.penne.specs.Write.{numB}
@@ -25,7 +25,7 @@ use Rattle.walk.specs.declared.state.Script.{Script}
 use Rattle.walk.specs.Walking.{containersIn}
 use Rattle.walk.proofs.Leading.{same-value}
 use Rattle.stages.specs.Heads.{rowsOf}
-use Rattle.stages.specs.Stages.{depthIn, Rowed, DepthOf, depthsIn, AllRowed, all-none, all-more, SaysDepths}
+use Rattle.stages.specs.Stages.{depthIn, Rowed, DepthOf, depthsIn, AllRowed, all-more, SaysDepths}
 use Rattle.stages.proofs.Sizing.{passing}
 use Rattle.stages.proofs.Predeclaring.{passed-to, passed-not}
 

@@ -8,7 +8,7 @@ use lib.Dec.{eqb, ltb}
 use lib.ListN.{length, getD, take, drop, length-append, List·getD-append}
 use lib.Seq.{getD-append-seam}
 use borrow.Author.Tests.{ltb-true, ltb-false, eq-eqb, ne-eqb}
-use Rattle.penne.specs.Reader.{Cur, got, Reader, _>>=_, ret, such, num, raw, nothing}
+use Rattle.penne.specs.Reader.{Cur, got, ret, such, num, raw, nothing}
 use Rattle.penne.specs.Read.{sameBytes, amongNames, readNames}
 use Rattle.penne.specs.Variables.{isMain}
 use Rattle.penne.proofs.Booleans.{true-false}
@@ -18,7 +18,6 @@ use Rattle.tree.specs.declared.script.Layout.{Layout}
 use Rattle.fields.specs.Answers.{cursor, numberOf, Gives}
 use Rattle.tree.specs.Script.{LaidOut}
 use Rattle.name_table.proofs.Names.{same-eq, refused-not}
-use Rattle.walk.specs.Walking.{Input}
 use Rattle.walk.proofs.Leading.{never, same-value, bind-got, such-got}
 use Rattle.stages.specs.Stages.{MainName}
 use Rattle.stages.proofs.Naming.{OneName, one-name, told-one, same-table}

@@ -1,13 +1,13 @@
 -- How many words a declaration takes: as many as statements are counted while it is read.
-use mathlib.Core.Path.{_≡_, refl, sym, ap, subst, _∙_}
+use mathlib.Core.Path.{_≡_, refl, ap, _∙_}
 use mathlib.Core.Bool.{Bool, true, false}
 use mathlib.Core.List.{List, [], _∷_}
 use Prim.Native.Nat.{ℕ, zero, suc, _+_, _≤_}
 use native.Mathlib.Omega.{arith}
 use lib.ListN.{getD}
 use Rattle.penne.specs.Tree.{Spot, Ident, Maybe, ok, err, expr, stmt, StmSort, Stm, nil′, cons′, declaration, assignment, methodCall, loop, goto, label, ifElse, block, badStmt, noElse, orElse, Body, Decl, constant, function, functionHead, structure, import, badDecl}
-use Rattle.penne.specs.Reader.{Counts, Cur, got, Reader, _>>=_, ret, num, below, bytes, many, listed, plus, counting, tooDeep, nothing, aContainer, aFunction, anEntry, aStatement}
-use Rattle.penne.specs.Read.{place, ident, readPoison, either, maybe, option, readTy, read, toStms, StmtKind, kDeclaration, kAssignment, kMethodCall, kLoop, kGoto, kLabel, kIf, kBlock, kBadStmt, stmtHead, stmtCounts, stmtOf, readStmt, elseOf, readDeclaration, readAssignment, readMethodCall, readJump, readIf, readBlock, readBody, readParam, DeclKind, kConstant, kFunction, kFunctionHead, kStructure, kImport, kBadDecl, declHead, declCounts, declOf, readDecl, readConstant, readFunction, readFunctionHead, readStructure, readImport}
+use Rattle.penne.specs.Reader.{Counts, Cur, got, Reader, _>>=_, ret, many, listed, plus, counting, nothing, aContainer, aFunction, anEntry, aStatement}
+use Rattle.penne.specs.Read.{either, maybe, toStms, StmtKind, kDeclaration, kAssignment, kMethodCall, kLoop, kGoto, kLabel, kIf, kBlock, kBadStmt, stmtHead, stmtCounts, stmtOf, readStmt, elseOf, readDeclaration, readAssignment, readMethodCall, readJump, readIf, readBlock, readBody, readParam, DeclKind, kConstant, kFunction, kFunctionHead, kStructure, kImport, kBadDecl, declHead, declCounts, declOf, readDecl, readConstant, readFunction, readFunctionHead, readStructure, readImport}
 use Rattle.label_references.specs.Marked.{marked, markedBody, markedDecl, rest}
 use Rattle.label_references.proofs.Leading.{Leads, leads-ret, leads-bind, leads-deep}
 use Rattle.label_references.proofs.Keeping.{Keeps, keeps-ret, keeps-bind, keeps-num, keeps-below, keeps-place, keeps-ident, keeps-listed, keeps-poison, keeps-maybe, keeps-option, keeps-ty, keeps-read, keeps-bytes}

@@ -5,7 +5,7 @@ use mathlib.Core.List.{List}
 use lib.ListN.{getD}
 use Rattle.penne.specs.Reader.{Counts, num, below}
 use Rattle.penne.specs.Tree.{Spot, Ident, Poison, Decl, constant, function, functionHead, structure, import, badDecl}
-use Rattle.penne.specs.Read.{place, declOf, declKinds, kBadDecl}
+use Rattle.penne.specs.Read.{declOf, declKinds, kBadDecl}
 use Rattle.fields.specs.declared.number.Read.{Read}
 use Rattle.fields.specs.declared.number.Read.the-variants.{Number}
 use Rattle.fields.specs.declared.field.Identified.the-variants as I

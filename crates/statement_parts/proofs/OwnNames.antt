@@ -14,7 +14,7 @@ use Rattle.penne.proofs.IdsPass.{grown-declare}
 use Rattle.fields.specs.declared.field.Identifier.{Identifier}
 use Rattle.fields.specs.declared.field.Identified.{Identified}
 use Rattle.fields.specs.declared.field.Identified.the-variants as I
-use Rattle.fields.specs.Answers.{countsOf, identOf, identifiedOf, Identifies, poisonNames, poisonPlaces, cursor}
+use Rattle.fields.specs.Answers.{countsOf, identOf, identifiedOf, Identifies, poisonNames, poisonPlaces}
 use Rattle.answer.specs.declared.wrote.Wrote.{Wrote}
 use Rattle.answer.specs.Out.{Put}
 use Rattle.answer.specs.Parts.{identifierB}

@@ -1,14 +1,14 @@
 -- Rows that tell where declarations end: what is written to one changes no other.
 use mathlib.Core.Path.{_≡_, refl, sym, ap, subst, _∙_}
 use mathlib.Core.Bool.{Bool, true, false}
-use mathlib.Core.List.{List, [], _∷_}
-use Prim.Native.Nat.{ℕ, zero, suc, _+_, _-_, _*_, _%_, _≤_, _<_}
+use mathlib.Core.List.{List}
+use Prim.Native.Nat.{ℕ, _+_, _*_, _%_, _≤_, _<_}
 use native.Mathlib.Omega.{arith}
 use native.Mathlib.Decide.{ℕ-discrete}
 use lib.Dec.{ltb}
 use lib.ListN.{length, getD, set, replicate, length-set, length-replicate, getD-replicate}
 use lib.Seq.{getD-set-same, getD-set-other}
-use borrow.Author.Tests.{eqb-true, ltb-true, ltb-false}
+use borrow.Author.Tests.{ltb-true, ltb-false}
 use Rattle.penne.specs.Read.{readDecl}
 use Rattle.fields.specs.declared.counts.Counts as C
 use Rattle.fields.specs.declared.counts.Passed.{Passed}

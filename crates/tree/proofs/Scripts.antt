@@ -8,7 +8,7 @@ use native.Mathlib.Omega.{arith}
 use lib.Dec.{ltb}
 use lib.ListN.{length, getD}
 use borrow.Author.Tests.{lt-ltb, le-ltb}
-use Rattle.penne.specs.Reader.{Counts, Cur, Got, got, refused, Reader, _>>=_, ret, num, below, such, many, listed, each, fits, plus, counting, nothing}
+use Rattle.penne.specs.Reader.{Counts, Cur, Got, got, refused, Reader, _>>=_, ret, num, below, many, listed, each, fits, plus, counting, nothing}
 use Rattle.penne.specs.Tree.{Spot, Decl, Tree}
 use Rattle.penne.specs.Read.{readNames, tabled, readTree, ended, decode, incoming, answered, readDecl, declHead, declOf, DeclKind, declKinds, declCounts, kConstant, kFunction, kFunctionHead, kStructure, kImport, kBadDecl, readConstant, readFunction, readFunctionHead, readStructure, readImport}
 use Rattle.penne.proofs.Leading.{same-value, never as got-never}

@@ -1,28 +1,27 @@
 -- Statements, bodies, parameters and declarations: their heads, and what follows their kinds.
-use mathlib.Core.Path.{_≡_, refl, sym, ap, subst, _∙_}
-use mathlib.Core.Bool.{Bool, true, false}
+use mathlib.Core.Path.{_≡_, refl, sym, subst}
+use mathlib.Core.Bool.{true, false}
 use mathlib.Core.List.{List}
-use Prim.Native.Nat.{ℕ, zero, suc, _+_, _-_, _≤_, _<_}
+use Prim.Native.Nat.{ℕ, zero, suc, _+_, _-_, _≤_}
 use native.Mathlib.Omega.{arith}
 use lib.Dec.{eqb, lit≤}
 use lib.ListN.{length, getD}
 use borrow.Author.Tests.{eqb-true, eqb-false}
-use Rattle.penne.specs.Reader.{Counts, Cur, Got, got, Reader, _>>=_, ret, num, below, counting, anEntry}
-use Rattle.penne.specs.Tree.{Spot, stmt, Stm, Decl, Body, ok, err, badStmt, badDecl, noElse, orElse}
-use Rattle.penne.specs.Read.{place, either, maybe, readPoison, elseOf, readStmt, stmtHead, stmtOf, StmtKind, stmtKinds, stmtCounts, kBadStmt, readDecl, declHead, declOf, DeclKind, declKinds, declCounts, kBadDecl}
+use Rattle.penne.specs.Reader.{Counts, got, Reader, _>>=_, ret, num, below, counting, anEntry}
+use Rattle.penne.specs.Tree.{Spot, stmt, Stm}
+use Rattle.penne.specs.Read.{place, readStmt, stmtHead, stmtOf, StmtKind, stmtKinds, stmtCounts, kBadStmt, readDecl, declHead, declOf, DeclKind, declKinds, declCounts, kBadDecl}
 use Rattle.fields.specs.declared.number.Read.{Read}
 use Rattle.fields.specs.declared.number.Read.the-variants.{Number, Refused}
 use Rattle.fields.specs.declared.counts.Counts as C
 use Rattle.fields.specs.declared.counts.Counted.{Counted}
 use Rattle.fields.specs.declared.counts.Counted.the-variants.{Are, TooMany}
 use Rattle.fields.specs.declared.counts.Passed.{Passed}
-use Rattle.fields.specs.declared.counts.Passed.the-variants.{To}
 use Rattle.fields.specs.declared.counts.Passed.the-variants as P
 use Rattle.fields.specs.Answers.{cursor, Gives, Ends, countsOf, Counting, passedBy, Passes}
 use Rattle.fields.proofs.Chain.{reads, ends-number, ends-place, ends-tail, deep-ends, deep-halt}
 use Rattle.fields.proofs.Fields.{goes, getD-past}
 use Rattle.nodes.proofs.Nodes.{up}
-use Rattle.fields.proofs.Counting.{pass-end, pass-tail, pass-call, pass-halt, pass-part, pass-stop, pass-ret, either-stop, either-none, either-some, count-stop, count-full, count-in}
+use Rattle.fields.proofs.Counting.{pass-end, count-stop, count-full, count-in}
 
 -- a table's entry from the last one on, where the default is the last one too
 pub from-last : {A : Type 0} (l : List A) (n : ℕ) (d : A) → getD l n d ≡ d → length l ≤ n + 1 → (k : ℕ) → n ≤ k → getD l k d ≡ d

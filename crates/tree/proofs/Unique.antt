@@ -1,17 +1,17 @@
--- Two answers that meet one promise coincide: of the public calls, and of the readers of numbers, identifiers and counts.
+-- Two answers that meet one promise coincide: of the public verdicts, of the readers of numbers, and of a part's end.
 -- Where a promise speaks of a part's end alone, the ends coincide, or the refusals do.
-use mathlib.Core.Path.{_≡_, refl, sym, _∙_, ap}
+use mathlib.Core.Path.{_≡_, refl, sym, _∙_}
 use mathlib.Core.List.{List}
 use mathlib.Core.Option.{some}
 use Prim.Native.Nat.{ℕ}
 use native.Mathlib.Omega.{arith}
-use Rattle.penne.specs.Reader.{Counts, Cur, Got, got, refused, Reader, nothing}
+use Rattle.penne.specs.Reader.{Counts, Cur, got, Reader, nothing}
 use Rattle.penne.specs.Tree.{Spot, Decl}
 use Rattle.fields.specs.declared.number.Read.{Read}
 use Rattle.fields.specs.declared.number.Read.the-variants.{Number, Refused}
 use Rattle.tree.specs.declared.Verdict.{Verdict}
 use Rattle.tree.specs.declared.Verdict.the-variants as W
-use Rattle.fields.specs.Answers.{cursor, numberOf, endOf, Gives, Reads, Ends}
+use Rattle.fields.specs.Answers.{numberOf, endOf, Gives, Ends}
 use Rattle.tree.specs.Script.{verdictOf, refusal}
 
 same-verdict : (r r′ : Verdict) → verdictOf r ≡ verdictOf r′ → r ≡ r′

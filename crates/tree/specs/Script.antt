@@ -7,7 +7,7 @@ use mathlib.Core.Option.{Option, none, some}
 use lib.Dec.{ltb}
 use lib.ListN.{length}
 use Rattle.penne.specs.Reader.{Counts, Cur, Got, got, refused, Reader, _>>=_, ret, num, below, many, each, nothing}
-use Rattle.penne.specs.Tree.{Spot, Decl, Tree}
+use Rattle.penne.specs.Tree.{Spot, Decl}
 use Rattle.penne.specs.Read.{DeclKind, kConstant, kFunction, kFunctionHead, kStructure, kImport, kBadDecl, readDecl, readNames, readTree, decode, incoming, answered}
 use Rattle.fields.specs.declared.number.Read.{Read}
 use Rattle.fields.specs.declared.number.Read.the-variants as R
@@ -17,7 +17,6 @@ use Rattle.tree.specs.declared.script.Laid.the-variants as L
 use Rattle.tree.specs.declared.Verdict.{Verdict}
 use Rattle.tree.specs.declared.Verdict.the-variants as W
 use Rattle.fields.specs.Answers.{cursor, Ends, Skips}
-use Rattle.name_table.specs.Names.{namesFrom}
 
 -- THE VERDICT
 

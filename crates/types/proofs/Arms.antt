@@ -153,12 +153,16 @@ module _ (a b : Reader (Ty Spot)) {t : List ℕ} {s : Walk} {o l w : List ℕ} {
   unfolding tyOf tyB analyzeType S.ret
   simple-go e = as-kind a b k kPlain e (plain-go (plain k) (λ u. refl) refl)
 
-  -- the kinds 0 to 13 and 23
-  pub type-plain : (k ≡ 14 → ⊥) → (k ≡ 15 → ⊥) → (k ≡ 20 → ⊥) → (k ≡ 21 → ⊥) → (k ≡ 22 → ⊥) → (k < 14) ⊎ (((20 ≤ k) × (k < 24)) ⊎ (26 ≤ k)) → Tries t (tyOf a b k (getD tyKinds k kPlain)) analyzeType tyB s o l w r none o′ l′ w′
+  -- the kinds 0 to 13
+  pub type-simple : k < 14 → Tries t (tyOf a b k (getD tyKinds k kPlain)) analyzeType tyB s o l w r none o′ l′ w′
   unfolding tyKinds
-  type-plain n₁ n₂ n₃ n₄ n₅ (inl h) = simple-go (run tyKinds 0 14 kPlain kPlain refl k (omega arith) (omega arith))
-  type-plain n₁ n₂ n₃ n₄ n₅ (inr (inl h)) = let lo = h .0 in let hi = h .1 in nameless-go (omega arith)
-  type-plain n₁ n₂ n₃ n₄ n₅ (inr (inr h)) = simple-go (getD-past tyKinds k kPlain h)
+  type-simple h = simple-go (run tyKinds 0 14 kPlain kPlain refl k (omega arith) (omega arith))
+
+  -- kind 23
+  pub type-nameless : (k ≡ 20 → ⊥) → (k ≡ 21 → ⊥) → (k ≡ 22 → ⊥) → ((20 ≤ k) × (k < 24)) ⊎ (26 ≤ k) → Tries t (tyOf a b k (getD tyKinds k kPlain)) analyzeType tyB s o l w r none o′ l′ w′
+  unfolding tyKinds
+  type-nameless n₁ n₂ n₃ (inl h) = let lo = h .0 in let hi = h .1 in nameless-go (omega arith)
+  type-nameless n₁ n₂ n₃ (inr h) = simple-go (getD-past tyKinds k kPlain h)
 
 -- AN ELEMENT AND ITS LENGTH, A WORD AND ITS SIZE
 

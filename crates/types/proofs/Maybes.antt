@@ -13,12 +13,12 @@ use Rattle.penne.specs.State as S
 use Rattle.penne.specs.Variables.{analyzeType, analyzeMaybeType, analyzeOption}
 use Rattle.fields.specs.declared.number.Read.{Read}
 use Rattle.fields.specs.declared.number.Read.the-variants.{Number, Refused}
-use Rattle.fields.specs.Answers.{cursor, countsOf, numberOf, Gives}
+use Rattle.fields.specs.Answers.{cursor, numberOf, Gives}
 use Rattle.answer.specs.declared.wrote.Wrote.{Wrote}
 use Rattle.answer.specs.Out.{Put}
 use Rattle.walk.specs.declared.state.Walk.{Walk}
 use Rattle.walk.specs.declared.fault.Fault.{Fault}
-use Rattle.walk.specs.Walking.{Writes, Moves, here, onward, say, sayPoison, Walks, faultB, okB, Answers, fine, bad, Tries}
+use Rattle.walk.specs.Walking.{Writes, Moves, onward, say, sayPoison, Walks, faultB, okB, Answers, fine, bad, Tries}
 use Rattle.walk.proofs.Leading.{such-got, walks, leads-call, leads-tried, leads-end, leads-at}
 use Rattle.walk.proofs.Writing.{here-moved, here-after, here-wrote, moved, wrote, out-is, instead}
 use Rattle.walk.proofs.Choosing.{leads-unmaybe, leads-ok, leads-err, leads-unoption, leads-none, leads-some}

@@ -61,6 +61,7 @@ fn type_of(
     ensures { λ r. ⌜ ((own : Bool) (l : List ℕ) → Tries (now (tree .entry)) (tyOf (readTy left own) (readTy left false) kind (getD tyKinds kind kPlain)) analyzeType tyB st (now (answer .entry)) l (now (work .entry)) (walkOf r) (faultOf r) (now (answer .exit)) l (now (work .exit))) ⌝ }
 {
     match kind {
+        0..=13 => Typed::Fine(plain(answer, st, kind)),
         14 => array(tree, answer, work, st, left),
         15 => array_with_named_length(tree, answer, work, st, left),
         16..=19 => element_of(tree, answer, work, st, left, kind),

@@ -1,20 +1,20 @@
 -- The second pass over the whole tree: answer and list are what the definitions give.
-use Prim.Native.Nat.{ℕ, zero, suc, _+_, _≤_, _<_}
+use Prim.Native.Nat.{ℕ, suc, _≤_}
 use mathlib.Core.Path.{_≡_, refl, sym, ap, subst, _∙_}
-use mathlib.Core.Bool.{Bool, true}
+use mathlib.Core.Bool.{true}
 use mathlib.Core.List.{List, [], _∷_, _++_, map, append-assoc, flatMap}
-use mathlib.Core.Option.{Option, none}
+use mathlib.Core.Option.{Option}
 use native.Mathlib.Omega.{arith}
 use lib.Dec.{ltb}
 use lib.ListN.{length}
 use borrow.Author.Tests.{ltb-true}
 use Rattle.penne.specs.Tree.{Spot, Ident, Decl, Tree}
-use Rattle.penne.specs.Reader.{Cur, Got, got, refused, _>>=_, ret, such, num, many, each, nothing}
-use Rattle.penne.specs.Read.{readDecl, readNames, readTree}
+use Rattle.penne.specs.Reader.{Got, got, refused, _>>=_, ret, num, many, nothing}
+use Rattle.penne.specs.Read.{readDecl, readTree}
 use Rattle.penne.specs.Write.{numB, bytesB, listB, declB, encode}
 use Rattle.penne.specs.State as S
 use Rattle.penne.specs.Pruning.{Prunings, noPrunings, offsets, fate}
-use Rattle.penne.specs.Containers.{Container, Containment, withContainers, determineContainerDepths}
+use Rattle.penne.specs.Containers.{withContainers, determineContainerDepths}
 use Rattle.penne.specs.Scopes.{Analyzer, Pass, begin}
 use Rattle.penne.specs.Variables.{predeclare, analyzeDecl, inTurn, analyzeAll, depthOf, postanalyzed}
 use Rattle.penne.specs.Labels.{Labels, labelsDecl, labelsDecls, labelReferences}
@@ -36,20 +36,19 @@ use Rattle.containers.specs.Functions.{HoldsFunctions}
 use Rattle.label_references.specs.Pass.{uncounted}
 use Rattle.walk.specs.declared.state.Script.{Script}
 use Rattle.walk.specs.declared.state.Walk.{Walk}
-use Rattle.walk.specs.Walking.{here, containersIn, functionsIn, Whose, nobody, Tables, Rest, Ground, Marks, Stands, Is, Did, Leads, Input, Walks}
+use Rattle.walk.specs.Walking.{here, containersIn, functionsIn, Whose, nobody, Marks, Is, Leads, Input, Walks}
 use Rattle.walk.proofs.Leading.{same-value, leads-such}
 use Rattle.stages.specs.declared.predeclare.Predeclared.{Predeclared}
-use Rattle.variable_references.specs.declared.script.Answered.{Answered}
 use Rattle.declaration_parts.specs.Declaring.{declsWalk}
-use Rattle.stages.specs.Stages.{PredeclaresAll, SaysNames, DeterminesIn, SaysDepths, depthsIn}
+use Rattle.stages.specs.Stages.{PredeclaresAll, SaysNames, DeterminesIn, SaysDepths}
 use Rattle.variable_references.specs.Whole.{Started}
 use Rattle.variable_references.specs.Whole.{Prepared, treeOf, References}
-use Rattle.penne.proofs.IdsPass.{face, SameNames}
+use Rattle.penne.proofs.IdsPass.{face}
 use Rattle.penne.proofs.IdsWhole.{still-decls}
 use Rattle.stages.proofs.Bytes.{each-none}
 use Rattle.declaration_parts.proofs.Wholly.{predeclared, firstRest, first, wholly, walk-kept}
 use Rattle.declaration_parts.proofs.Depths.{predeclared-same, face-depths, depths-whole, rowed-whole}
-use Rattle.variable_references.proofs.Beginning.{Clean, clean-first, tabled-first, blank-first, mirrors-owns, marks-first, fate-none}
+use Rattle.variable_references.proofs.Beginning.{clean-first, tabled-first, blank-first, mirrors-owns, marks-first, fate-none}
 
 -- a tree that is read has at most 1,024 names
 names-few : {s : List ℕ} {l : Layout} (t : LaidOut s l) → l .names ≤ 1024

@@ -1,12 +1,11 @@
 -- The state that the walk begins with stands for the first ground.
-use Prim.Native.Nat.{ℕ, zero, suc, _+_, _-_, _≤_, _<_}
-use mathlib.Core.Path.{_≡_, refl, sym, ap, subst, _∙_}
+use Prim.Native.Nat.{ℕ, zero, suc, _+_, _≤_, _<_}
+use mathlib.Core.Path.{_≡_, refl, sym, ap, _∙_}
 use mathlib.Core.Bool.{Bool, true, false, not}
 use mathlib.Core.List.{List, [], _∷_, _++_, append-nil}
 use mathlib.Core.Option.{none}
 use native.Mathlib.Decide.{decLt}
 use native.Mathlib.Omega.{arith}
-use lib.Dec.{eqb}
 use lib.ListN.{length, getD, take, drop, length-drop, length-take, List·getD-eq-default}
 use lib.Seq.{length-take-le}
 use Rattle.penne.specs.Tree.{Spot, Ident, Decl, constant, function, functionHead, structure, import, badDecl}
@@ -14,26 +13,23 @@ use Rattle.penne.specs.Find.{keep}
 use Rattle.penne.specs.Find as F
 use Rattle.penne.specs.State as S
 use Rattle.penne.specs.Pruning.{noPrunings, fate, fateBy, standing}
-use Rattle.penne.specs.Containers.{Container, Containment, constants, identifierOf, pushContainer, withContainers}
+use Rattle.penne.specs.Containers.{Container, constants, identifierOf, pushContainer, withContainers}
 use Rattle.penne.specs.Scopes.{Analyzer, authoritative, nextId, withStack, withContainment, withFunctions, declareConstant, declareFunction, declareStruct, begin, pushConstant}
 use Rattle.penne.specs.Variables.{predeclare, inTurn}
-use Rattle.penne.specs.Scoper.{words}
 use Rattle.tree.specs.declared.script.Layout.{Layout}
 use Rattle.tree.specs.Script.{LaidOut}
 use Rattle.scopes.specs.declared.scope.Scope.{Scope}
-use Rattle.scopes.specs.Calls.{Begins}
 use Rattle.scopes.specs.Table.{Blank}
 use Rattle.scopes.specs.Mirror.{Mirrors}
-use Rattle.scopes.proofs.Analyzing.{mirrors-begin, mirrors-next, mirrors-containment, mirrors-functions, mirrors-constant}
-use Rattle.containers.specs.Table.{Holds}
+use Rattle.scopes.proofs.Analyzing.{mirrors-next, mirrors-containment, mirrors-functions, mirrors-constant}
 use Rattle.containers.proofs.Starting.{holds-none, holds-no-function}
-use Rattle.labels.specs.Outcomes.{outcomesDecls, labelsInDecls}
+use Rattle.labels.specs.Outcomes.{outcomesDecls}
 use Rattle.label_references.specs.Pass.{fresh, uncounted}
 use Rattle.labels.specs.Table.{Told}
 use Rattle.labels.proofs.Along.{along-length}
 use Rattle.scopes.specs.Labels.{Along, stop, step}
 use Rattle.label_references.proofs.Growing.{labels-few, statements-few}
-use Rattle.walk.specs.Walking.{scopesIn, containersIn, functionsIn, Lower, Input, Marks}
+use Rattle.walk.specs.Walking.{scopesIn, Input, Marks}
 use Rattle.walk.specs.declared.state.Script.{Script}
 use Rattle.walk.proofs.Tables.{marks-kept, part-word}
 use Rattle.declaration_parts.proofs.Wholly.{firstRest}

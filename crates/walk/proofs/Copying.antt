@@ -11,7 +11,7 @@ use Rattle.penne.specs.Reader.{Cur, Got, got, refused, Reader, _>>=_, ret, such
 use Rattle.penne.specs.Tree.{Spot, poison, earlier}
 use Rattle.penne.specs.Read.{place, name, ident, poisonFields, poisonOf, readPoison}
 use Rattle.penne.specs.Write.{numB, placeB, identB, poisonB}
-use Rattle.fields.specs.Answers.{cursor, countsOf, Ends, twoPlaces, operator}
+use Rattle.fields.specs.Answers.{cursor, Ends, twoPlaces, operator}
 use Rattle.answer.specs.Parts.{renumbered}
 use Rattle.answer.proofs.Spelling.{num-reading}
 use Rattle.answer.proofs.Runs.{renumbered-end, renumbered-more}

@@ -1,19 +1,19 @@
 -- An identifier that is read stands in the tree, and its name in the table of names.
-use mathlib.Core.Path.{_≡_, refl, sym, ap, subst, _∙_}
+use mathlib.Core.Path.{_≡_, sym, ap, subst, _∙_}
 use mathlib.Core.Bool.{Bool, true, false, _&&_, _||_, not}
 use mathlib.Core.List.{List}
-use Prim.Native.Nat.{ℕ, zero, suc, _+_, _*_, _%_, _^_, _≤_, _<_}
+use Prim.Native.Nat.{ℕ, zero, suc, _+_, _*_, _%_, _^_, _<_}
 use native.Mathlib.Omega.{arith}
 use lib.Dec.{ltb, eqb}
 use lib.ListN.{length, getD}
 use borrow.Author.Tests.{ltb-true}
-use Rattle.penne.specs.Reader.{Cur, Got, got, refused, _>>=_, ret, num, below, groups, lastGroup, moved, nothing}
+use Rattle.penne.specs.Reader.{Cur, Got, got, refused, ret, num, below, groups, lastGroup, moved, nothing}
 use Rattle.penne.specs.Tree.{Spot, Ident}
 use Rattle.penne.specs.Read.{name, ident}
 use Rattle.fields.specs.declared.field.Identifier.{Identifier}
 use Rattle.fields.specs.declared.field.Identified.{Identified}
 use Rattle.fields.specs.declared.field.Identified.the-variants as I
-use Rattle.fields.specs.Answers.{cursor, identOf, identifiedOf, Identifies}
+use Rattle.fields.specs.Answers.{cursor, identifiedOf, Identifies}
 use Rattle.answer.proofs.Spelling.{num-reading}
 use Rattle.walk.proofs.Leading.{never, same-value, same-cur, bind-got, such-got}
 

@@ -1,19 +1,19 @@
 -- Gotos and labels: what the walk stands for afterwards.
 use mathlib.Core.Path.{_≡_, refl, sym, ap, subst, _∙_}
-use mathlib.Core.List.{List, []}
+use mathlib.Core.List.{List}
 use mathlib.Core.Option.{Option, none, some}
 use Prim.Native.Nat.{ℕ, _+_, _-_, _≤_, _<_}
 use native.Mathlib.Omega.{arith}
-use lib.ListN.{length, getD, take, drop}
+use lib.ListN.{length, getD}
 use borrow.Rule.Slice.PartMut.{putMid}
 use Rattle.penne.specs.Tree.{Spot, Ident}
 use Rattle.penne.specs.Pruning.{UnresolvedPruning, Prunings, offsets, pruneBy}
 use Rattle.penne.specs.Pruning as R
-use Rattle.penne.specs.Scopes.{Analyzer, withPrunings, lastLayer, prepareToPruneAtGoto, pruneAtLabel}
+use Rattle.penne.specs.Scopes.{withPrunings, lastLayer, prepareToPruneAtGoto, pruneAtLabel}
 use Rattle.penne.specs.Scoper.{words}
 use Rattle.answer.specs.Out.{Said}
 use Rattle.scopes.specs.Jumps as J
-use Rattle.scopes.specs.Table.{Label, Keeps}
+use Rattle.scopes.specs.Table.{Label}
 use Rattle.scopes.proofs.Analyzing.{mirrors-goto, mirrors-label}
 use Rattle.scopes.specs.Labels.{Named}
 use Rattle.walk.specs.declared.state.Walk.{Walk}

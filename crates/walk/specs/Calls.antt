@@ -122,7 +122,7 @@ pub record Pushes (s : Walk) (i : Identifier) (from : ℕ) (w : List ℕ) (r : W
 unfoldable pub useRow : ℕ → Ident Spot → Pass Spot (Maybe Spot (Ident Spot))
 useRow row x = λ a. useAs x ((at (a .containment .containers) row) .identifier) a
 
--- use_container
+-- use_containee
 pub record UsesRow (s : Walk) (i : Identifier) (row : ℕ) (w : List ℕ) (r : Used) (w′ : List ℕ) : Type 0 where
   pub does : row < s .script .containers → Uses (useRow row) s i w r w′
 

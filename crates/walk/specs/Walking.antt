@@ -183,7 +183,7 @@ pub record Did (d : Cur) (a : Ground) (r : Walk) (o l w : List ℕ) : Type 0 whe
 pub record Leads {A : Type 0} (m : Reader A) (t : List ℕ) (c : Cur) (P : A → Cur → Type 0) : Type 0 where
   pub to : (x : A) (d : Cur) → m t c ≡ got x d → P x d
 
--- a tree that row 2 does not refuse
+-- a tree of bytes that row 1 does not refuse
 pub record Input (t : List ℕ) : Type 0 where
   pub short : length t ≤ 65535
   pub bytes : (i : ℕ) → getD t i 0 < 256

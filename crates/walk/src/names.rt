@@ -149,7 +149,7 @@ fn push_variable(work: &mut [u32], st: Walk, i: Identifier, from: usize) -> Walk
 // USING: a use takes the id of what it finds, and authority 0.
 
 // The use of a constant or structure by its row: in a constant's value a use is an edge.
-fn use_container(work: &mut [u32], st: Walk, i: Identifier, row: usize) -> Used
+fn use_containee(work: &mut [u32], st: Walk, i: Identifier, row: usize) -> Used
     ensures { λ r. ⌜ UsesRow st i row (now (work .entry)) r (now (work .exit)) ⌝ }
 {
     let j = container_at(work, row);
@@ -178,7 +178,7 @@ pub fn use_struct(work: &mut [u32], st: Walk, i: Identifier) -> Used
     let Predeclared::At(row) = found else {
         return Used::Not(undefined(11, i));
     };
-    use_container(work, st, i, row)
+    use_containee(work, st, i, row)
 }
 
 // "`use_constant` searches layer 0 first, then only to choose kind 12 or 9."
@@ -189,7 +189,7 @@ pub fn use_constant(work: &mut [u32], st: Walk, i: Identifier) -> Used
     let Predeclared::At(row) = found else {
         return no_constant(work, st, i);
     };
-    use_container(work, st, i, row)
+    use_containee(work, st, i, row)
 }
 
 fn no_constant(work: &[u32], st: Walk, i: Identifier) -> Used
@@ -261,7 +261,7 @@ pub fn use_variable(
     let Predeclared::At(row) = constant else {
         return use_local(list, work, st, i, from);
     };
-    let used = use_container(work, st, i, row);
+    let used = use_containee(work, st, i, row);
     match used {
         Used::As(made) => Named::As(st, made),
         Used::Not(fault) => Named::Not(st, fault),

@@ -10,19 +10,19 @@ same-length : tie.Need-same-length
 same-length c = (c .before .before .tell .kept .0)
 
 returns : tie.Need-returns
-returns c = told-as _ (c .before .before .tell .ensures) (tells-depth _ (c .before .before .before .before .before .before .before .before .get-container-depth .ensures) (c .before .before .before .before .before .before .depth .given .1) (c .before .before .before .before .if1 .taken))
+returns c = told-as _ (c .before .before .tell .ensures) (tells-depth _ _ _ (c .before .before .before .before .before .before .before .before .get-container-depth .ensures) (c .before .before .before .before .before .before .depth .given .1) (c .before .before .before .before .if1 .taken))
 
 same-length-2 : tie.Need-same-length-2
 same-length-2 c = (c .before .before .tell2 .kept .0)
 
 returns-2 : tie.Need-returns-2
-returns-2 c = told-as _ (c .before .before .tell2 .ensures) (tells-max _ (c .before .before .before .before .before .before .before .before .get-container-depth .ensures) (c .before .before .before .before .before .before .depth .given .1) (c .before .before .before .before .if1 .left))
+returns-2 c = told-as _ (c .before .before .tell2 .ensures) (tells-max _ _ _ (c .before .before .before .before .before .before .before .before .get-container-depth .ensures) (c .before .before .before .before .before .before .depth .given .1) (c .before .before .before .before .if1 .left))
 
 same-length-3 : tie.Need-same-length-3
 same-length-3 c = (c .before .before .tell3 .kept .0)
 
 returns-3 : tie.Need-returns-3
-returns-3 c = told-as _ (c .before .before .tell3 .ensures) (tells-undepth _ (c .before .before .before .before .before .before .before .get-container-depth .ensures) (c .before .before .before .before .before .depth2 .given .1))
+returns-3 c = told-as _ (c .before .before .tell3 .ensures) (tells-undepth _ _ _ (c .before .before .before .before .before .before .before .get-container-depth .ensures) (c .before .before .before .before .before .depth2 .given .1))
 
 pub hurdlebraid-container-depth-spec : {M : Type 1} → statement M
 hurdlebraid-container-depth-spec = tie.close (tie.spec (λ c κs. search needs) (λ c. search needs) (λ c. search needs) (λ c κs. search needs) (λ c κs. search needs) (λ c. search needs) (λ c. search needs) (λ c κs. search needs) same-length returns same-length-2 returns-2 same-length-3 returns-3)

@@ -5,7 +5,7 @@ use borrow.Author.Needs.{needs}
 use native.Mathlib.Omega.{arith}
 use Prim.Native.Nat.{ℕ}
 use mathlib.Core.Logic.{⊎-elim, inl, inr}
-use Rattle.types.proofs.Arms.{type-array, type-named, type-word, type-arraylike, type-struct, type-unresolved, type-behind, type-plain}
+use Rattle.types.proofs.Arms.{type-array, type-named, type-word, type-arraylike, type-struct, type-unresolved, type-behind, type-simple, type-nameless}
 use mathlib.Core.Bool.{false}
 use Rattle.types.specs.Typing.{walkOf, faultOf}
 use Rattle.types.proofs.+array+array_with_named_length+element_of+type_of+value_type.Lts-type_of as lts
@@ -19,7 +19,7 @@ use Rattle.types.proofs.type_of.Reads as type-of
 use Rattle.types.proofs.word.Reads as word-reads
 
 abbrev calls : ℕ → lts.Claims
-calls t = (array-below t, array.Post, array-with-named-length-below t, array-with-named-length.Post, structure-reads.Asked, structure-reads.Learnt, word-reads.Asked, word-reads.Learnt, element-of-below t, element-of.Post, plain-reads.Asked, plain-reads.Learnt)
+calls t = (array-below t, array.Post, array-with-named-length-below t, array-with-named-length.Post, structure-reads.Asked, structure-reads.Learnt, word-reads.Asked, word-reads.Learnt, plain-reads.Asked, plain-reads.Learnt, element-of-below t, element-of.Post)
 
 same-length : (t : ℕ) → lts.Need-same-length (calls t) (type-of-at t) type-of.Post
 same-length t c = (c .before .before .before .before .array .kept .1 .0)
@@ -66,27 +66,34 @@ same-length-10 t c = (c .before .before .before .before .structure2 .kept .1 .1 
 returns-5 : (t : ℕ) → lts.Need-returns-5 (calls t) (type-of-at t) type-of.Post
 returns-5 t c = λ own l. type-unresolved _ _ _ (c .before .before .before .before .before .before .before .match .keys5) ((c .before .before .before .before .structure2 .ensures) l)
 
-same-length-11 : (t : ℕ) → lts.Need-same-length-11 (calls t) (type-of-at t) type-of.Post
-same-length-11 t c = (c .before .before .before .before .element-of .kept .1 .0)
+returns-6 : (t : ℕ) → lts.Need-returns-6 (calls t) (type-of-at t) type-of.Post
+unfolding walkOf faultOf
+returns-6 t c = λ own l. type-simple _ _ _ ((c .before .before .plain .ensures) _ l _) (c .before .before .before .before .if1 .taken)
 
 same-length-12 : (t : ℕ) → lts.Need-same-length-12 (calls t) (type-of-at t) type-of.Post
-same-length-12 t c = (c .before .before .before .before .element-of .kept .1 .1 .0)
-
-returns-6 : (t : ℕ) → lts.Need-returns-6 (calls t) (type-of-at t) type-of.Post
-returns-6 t c = λ own l. type-arraylike _ _ _ (c .before .before .before .before .before .before .before .before .before .match .rest .0 .0 .0 .0 .1) (c .before .before .before .before .before .before .before .before .before .match .rest .0 .0 .0 .1) (c .before .before .before .before .before .before .before .before .if1 .left) (c .before .before .before .before .before .before .before .if2 .taken) ((c .before .before .before .before .element-of .ensures) own l)
+same-length-12 t c = (c .before .before .before .before .element-of .kept .1 .0)
 
 same-length-13 : (t : ℕ) → lts.Need-same-length-13 (calls t) (type-of-at t) type-of.Post
-same-length-13 t c = (c .before .before .before .before .element-of2 .kept .1 .0)
-
-same-length-14 : (t : ℕ) → lts.Need-same-length-14 (calls t) (type-of-at t) type-of.Post
-same-length-14 t c = (c .before .before .before .before .element-of2 .kept .1 .1 .0)
+same-length-13 t c = (c .before .before .before .before .element-of .kept .1 .1 .0)
 
 returns-7 : (t : ℕ) → lts.Need-returns-7 (calls t) (type-of-at t) type-of.Post
-returns-7 t c = λ own l. type-behind _ _ _ (c .before .before .before .before .before .before .before .before .if3 .left) (c .before .before .before .before .before .before .before .if4 .taken) ((c .before .before .before .before .element-of2 .ensures) false l)
+returns-7 t c = λ own l. type-arraylike _ _ _ (c .before .before .before .before .before .before .before .before .before .match .rest .0 .0 .0 .0 .1) (c .before .before .before .before .before .before .before .before .before .match .rest .0 .0 .0 .1) (c .before .before .before .before .before .before .before .before .if1 .left) (c .before .before .before .before .before .before .before .if2 .taken) ((c .before .before .before .before .element-of .ensures) own l)
+
+same-length-14 : (t : ℕ) → lts.Need-same-length-14 (calls t) (type-of-at t) type-of.Post
+same-length-14 t c = (c .before .before .before .before .element-of2 .kept .1 .0)
+
+same-length-15 : (t : ℕ) → lts.Need-same-length-15 (calls t) (type-of-at t) type-of.Post
+same-length-15 t c = (c .before .before .before .before .element-of2 .kept .1 .1 .0)
 
 returns-8 : (t : ℕ) → lts.Need-returns-8 (calls t) (type-of-at t) type-of.Post
+returns-8 t c = λ own l. type-behind _ _ _ (c .before .before .before .before .before .before .before .before .if3 .left) (c .before .before .before .before .before .before .before .if4 .taken) ((c .before .before .before .before .element-of2 .ensures) false l)
+
+same-length-16 : (t : ℕ) → lts.Need-same-length-16 (calls t) (type-of-at t) type-of.Post
+same-length-16 t c = (c .before .before .plain2 .kept .0)
+
+returns-9 : (t : ℕ) → lts.Need-returns-9 (calls t) (type-of-at t) type-of.Post
 unfolding walkOf faultOf
-returns-8 t c = λ own l. type-plain _ _ _ ((c .before .before .plain .ensures) _ l _) ((c .before .before .before .before .before .match .rest .0 .0 .0 .0 .1)) ((c .before .before .before .before .before .match .rest .0 .0 .0 .1)) ((c .before .before .before .before .before .match .rest .0 .0 .1)) ((c .before .before .before .before .before .match .rest .0 .1)) ((c .before .before .before .before .before .match .rest .1)) (⊎-elim (λ x. inl (x .taken)) (λ y. inr (⊎-elim (λ x. inl (x .1 .left, x .2 .taken)) (λ x. inr (x .3 .left)) y)) (c .before .before .before .before .if1 .came))
+returns-9 t c = λ own l. type-nameless _ _ _ ((c .before .before .plain2 .ensures) _ l _) ((c .before .before .before .before .before .before .before .match .rest .0 .0 .1)) ((c .before .before .before .before .before .before .before .match .rest .0 .1)) ((c .before .before .before .before .before .before .before .match .rest .1)) (⊎-elim (λ x. inl ((c .before .before .before .before .before .if2 .left), x .taken)) (λ x. inr (x .1 .left)) (c .before .before .before .before .if3 .came))
 
 pub met : {M : Type 1} (t : ℕ) → lts.Closed (calls t) (type-of-at t) type-of.Post M
-met t = lts.spec (calls t) (type-of-at t) type-of.Post (λ c κs. omega (arith, (c .before .before .before .before .before .before .pre))) (λ c κs. omega (arith, (c .before .before .before .before .before .before .pre))) (λ c κs. search needs) (λ c κs. search needs) (λ c κs. search needs) (λ c κs. omega (arith, (c .before .before .before .before .before .before .before .before .pre))) (λ c κs. omega (arith, (c .before .before .before .before .before .before .before .before .before .before .pre))) (λ c κs. search needs) (same-length t) (same-length-2 t) (returns t) (same-length-3 t) (same-length-4 t) (returns-2 t) (same-length-5 t) (same-length-6 t) (returns-3 t) (same-length-7 t) (same-length-8 t) (returns-4 t) (same-length-9 t) (same-length-10 t) (returns-5 t) (same-length-11 t) (same-length-12 t) (returns-6 t) (same-length-13 t) (same-length-14 t) (returns-7 t) (λ c. search needs) (returns-8 t)
+met t = lts.spec (calls t) (type-of-at t) type-of.Post (λ c κs. omega (arith, (c .before .before .before .before .before .before .pre))) (λ c κs. omega (arith, (c .before .before .before .before .before .before .pre))) (λ c κs. search needs) (λ c κs. search needs) (λ c κs. search needs) (λ c κs. search needs) (λ c κs. omega (arith, (c .before .before .before .before .before .before .before .before .pre))) (λ c κs. omega (arith, (c .before .before .before .before .before .before .before .before .before .before .pre))) (λ c κs. search needs) (same-length t) (same-length-2 t) (returns t) (same-length-3 t) (same-length-4 t) (returns-2 t) (same-length-5 t) (same-length-6 t) (returns-3 t) (same-length-7 t) (same-length-8 t) (returns-4 t) (same-length-9 t) (same-length-10 t) (returns-5 t) (λ c. search needs) (returns-6 t) (same-length-12 t) (same-length-13 t) (returns-7 t) (same-length-14 t) (same-length-15 t) (returns-8 t) (same-length-16 t) (returns-9 t)

@@ -10,10 +10,10 @@ returns : tie.Need-returns
 returns c = constant-not (c .before .before .before .before .find-in .ensures) (c .before .before .enum-told .given .1) (c .no-constant .ensures)
 
 same-length-2 : tie.Need-same-length-2
-same-length-2 c = (c .before .before .use-container .kept .0)
+same-length-2 c = (c .before .before .use-containee .kept .0)
 
 returns-2 : tie.Need-returns-2
-returns-2 c = use-the-constant _ _ (c .before .before .before .before .before .before .before .find-in .ensures) (c .before .before .before .before .before .found .given .1) (c .before .before .use-container .ensures)
+returns-2 c = use-the-constant _ _ (c .before .before .before .before .before .before .before .find-in .ensures) (c .before .before .before .before .before .found .given .1) (c .before .before .use-containee .ensures)
 
 pub use-constant-spec : {M : Type 1} → statement M
 use-constant-spec = tie.close (tie.spec (λ c κs. search needs) (λ c. search needs) (λ c. search needs) (λ c κs. search needs) (λ c. search needs) returns (λ c κs. search needs) same-length-2 returns-2)

@@ -16,16 +16,16 @@ returns : tie.Need-returns
 returns c = variable-local (c .before .before .before .before .before .before .before .before .before .find-in .ensures) (c .before .before .before .before .before .before .before .enum-told .given .1) (c .before .before .before .before .use-local .ensures)
 
 same-length-3 : tie.Need-same-length-3
-same-length-3 c = (c .before .before .before .before .before .use-container .kept .0)
+same-length-3 c = (c .before .before .before .before .before .use-containee .kept .0)
 
 returns-2 : tie.Need-returns-2
-returns-2 c = listed-as (use-the-variable (c .before .before .before .before .before .before .before .before .before .before .find-in .ensures) (c .before .before .before .before .before .before .before .before .constant .given .1) (c .before .before .before .before .before .use-container .ensures)) (c .before .used .given .1)
+returns-2 c = listed-as (use-the-variable (c .before .before .before .before .before .before .before .before .before .before .find-in .ensures) (c .before .before .before .before .before .before .before .before .constant .given .1) (c .before .before .before .before .before .use-containee .ensures)) (c .before .used .given .1)
 
 same-length-4 : tie.Need-same-length-4
-same-length-4 c = (c .before .before .before .before .before .use-container .kept .0)
+same-length-4 c = (c .before .before .before .before .before .use-containee .kept .0)
 
 returns-3 : tie.Need-returns-3
-returns-3 c = listed-not (use-the-variable (c .before .before .before .before .before .before .before .before .before .before .find-in .ensures) (c .before .before .before .before .before .before .before .before .constant .given .1) (c .before .before .before .before .before .use-container .ensures)) (c .before .used2 .given .1)
+returns-3 c = listed-not (use-the-variable (c .before .before .before .before .before .before .before .before .before .before .find-in .ensures) (c .before .before .before .before .before .before .before .before .constant .given .1) (c .before .before .before .before .before .use-containee .ensures)) (c .before .used2 .given .1)
 
 pub use-variable-spec : {M : Type 1} → statement M
 use-variable-spec = tie.close (tie.spec (λ c κs. search needs) (λ c. search needs) (λ c. search needs) (λ c κs. search needs) same-length same-length-2 returns (λ c κs. search needs) (λ c. search needs) (λ c. search needs) same-length-3 returns-2 same-length-4 returns-3)
