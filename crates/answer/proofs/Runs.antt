@@ -15,7 +15,7 @@ use Rattle.fields.specs.declared.number.Read.the-variants.{Number, Refused}
 use Rattle.fields.specs.Answers.{cursor, numberOf, Gives}
 use Rattle.answer.specs.declared.wrote.Wrote.{Wrote}
 use Rattle.answer.specs.Out.{Put}
-use Rattle.answer.specs.Parts.{part, renumbered, renumberedBy}
+use Rattle.answer.specs.Parts.{span, renumbered, renumberedBy}
 use Rattle.answer.proofs.Chain.{_▸_}
 use Rattle.answer.proofs.Spelling.{Bytewise, num-reading}
 
@@ -54,26 +54,26 @@ module _ {w : Wrote} {xs o₀ : List ℕ} {n i : ℕ} {c : Wrote} {o : List ℕ}
 
 -- A PART OF THE TREE, AS IT IS
 
-part-nothing : (s : List ℕ) (from to : ℕ) → to ≤ from → part s from to ≡ []
-unfolding part
+part-nothing : (s : List ℕ) (from to : ℕ) → to ≤ from → span s from to ≡ []
+unfolding span
 part-nothing s from to h = let e : to - from ≡ 0 = omega arith in ap (λ (k : ℕ). take k (drop from s)) e
 
-part-past : (s : List ℕ) (from to : ℕ) → length s ≤ from → part s from to ≡ []
-unfolding part
+part-past : (s : List ℕ) (from to : ℕ) → length s ≤ from → span s from to ≡ []
+unfolding span
 part-past s from to h = ap (take (to - from)) (drop-of-length-le s h) ∙ take-nil (to - from)
 
-part-rest : (s : List ℕ) (from to : ℕ) → length s ≤ to → part s from (length s) ≡ part s from to
-unfolding part
+part-rest : (s : List ℕ) (from to : ℕ) → length s ≤ to → span s from (length s) ≡ span s from to
+unfolding span
 part-rest s from to h = take-all (length s - from) (drop from s) (omega (arith, length-drop from s)) ∙ sym (take-all (to - from) (drop from s) (omega (arith, length-drop from s)))
 
 module _ (s : List ℕ) (from to : ℕ) {w : Wrote} {o : List ℕ} {r : Wrote} {o′ : List ℕ} where
-  pub copy-nothing : to ≤ from → Put w [] o r o′ → Put w (part s from to) o r o′
+  pub copy-nothing : to ≤ from → Put w [] o r o′ → Put w (span s from to) o r o′
   copy-nothing h p = put-same (sym (part-nothing s from to h)) p
 
-  pub copy-past : length s ≤ from → Put w [] o r o′ → Put w (part s from to) o r o′
+  pub copy-past : length s ≤ from → Put w [] o r o′ → Put w (span s from to) o r o′
   copy-past h p = put-same (sym (part-past s from to h)) p
 
-  pub copy-rest : length s ≤ to → Put w (part s from (length s)) o r o′ → Put w (part s from to) o r o′
+  pub copy-rest : length s ≤ to → Put w (span s from (length s)) o r o′ → Put w (span s from to) o r o′
   copy-rest h p = put-same (part-rest s from to h) p
 
 -- THE TREE'S NUMBERS
@@ -169,17 +169,17 @@ pub numbers-join : {s : List ℕ} {a b c : ℕ} → Numbers s a b → Numbers s 
 numbers-join none q = q
 numbers-join (more v next e rest) q = more v next e (numbers-join rest q)
 
-pub part-join : (s : List ℕ) (a b c : ℕ) → a ≤ b → b ≤ c → part s a b ++ part s b c ≡ part s a c
-unfolding part
+pub part-join : (s : List ℕ) (a b c : ℕ) → a ≤ b → b ≤ c → span s a b ++ span s b c ≡ span s a c
+unfolding span
 part-join s a b c h k =
     let e : c - a ≡ (b - a) + (c - b) = omega arith in
     let d : a + (b - a) ≡ b = omega arith in
     sym (ap (λ (n : ℕ). take n (drop a s)) e ∙ take-add (b - a) (c - b) (drop a s) ∙ ap (λ (l : List ℕ). take (b - a) (drop a s) ++ take (c - b) l) (drop-drop (b - a) a s ∙ ap (λ (n : ℕ). drop n s) d))
 
 -- their shortest forms are the bytes that stand there
-pub renumbered-is : {s : List ℕ} {from to : ℕ} → Bytewise s → Numbers s from to → renumbered s from to ≡ part s from to
+pub renumbered-is : {s : List ℕ} {from to : ℕ} → Bytewise s → Numbers s from to → renumbered s from to ≡ span s from to
 renumbered-is {s} {from} b none = renumbered-end s from from (omega arith) ∙ sym (part-nothing s from from (omega arith))
 renumbered-is {s} {from} {to} b (more v next e rest) =
     let r = num-reading s (at-byte from) v (at-byte next) e in
     let h = numbers-le rest in
-    renumbered-more s from to v (at-byte next) (omega arith) e ∙ ap (λ (l : List ℕ). l ++ renumbered s next to) (r .bytes b) ∙ ap (λ (l : List ℕ). part s from next ++ l) (renumbered-is b rest) ∙ part-join s from next to (omega arith) h
+    renumbered-more s from to v (at-byte next) (omega arith) e ∙ ap (λ (l : List ℕ). l ++ renumbered s next to) (r .bytes b) ∙ ap (λ (l : List ℕ). span s from next ++ l) (renumbered-is b rest) ∙ part-join s from next to (omega arith) h

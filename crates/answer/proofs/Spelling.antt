@@ -12,7 +12,7 @@ use lib.Seq.{drop-cons}
 use borrow.Author.Tests.{lt-ltb, le-ltb, eq-eqb, ne-eqb}
 use Rattle.penne.specs.Reader.{Cur, Got, got, refused, num, groups, lastGroup, moved}
 use Rattle.penne.specs.Write.{numB, groupsB}
-use Rattle.answer.specs.Parts.{part}
+use Rattle.answer.specs.Parts.{span}
 use Rattle.answer.proofs.Groups.{groups-small, groups-more}
 
 -- all of s are bytes
@@ -20,19 +20,19 @@ abbrev pub Bytewise : List ℕ → Type 0
 Bytewise s = (i : ℕ) → getD s i 0 < 256
 
 -- a part by its first byte
-part-cons : (s : List ℕ) (at next : ℕ) → at < length s → at < next → part s at next ≡ getD s at 0 ∷ part s (at + 1) next
-unfolding part
+part-cons : (s : List ℕ) (at next : ℕ) → at < length s → at < next → span s at next ≡ getD s at 0 ∷ span s (at + 1) next
+unfolding span
 part-cons s at next h l =
     let e : next - at ≡ suc (next - (at + 1)) = omega arith in
     ap (λ (k : ℕ). take k (drop at s)) e ∙ ap (take (suc (next - (at + 1)))) (drop-cons s at 0 h) ∙ ap (λ (k : ℕ). getD s at 0 ∷ take (next - (at + 1)) (drop k s)) (sym (add-one at))
 
-part-none : (s : List ℕ) (at : ℕ) → part s at at ≡ []
-unfolding part
+part-none : (s : List ℕ) (at : ℕ) → span s at at ≡ []
+unfolding span
 part-none s at = let e : at - at ≡ 0 = omega arith in ap (λ (k : ℕ). take k (drop at s)) e
 
 -- what groups of weight w and up come to, in the middle of a number: u, whose groups stand in s from `at` on
 data Spelt (s : List ℕ) (left at w v : ℕ) (c : Cur) : Got ℕ → Type 0 where
-  spelt : (u next : ℕ) → at + length (groupsB left u) ≡ next → at < next → next ≤ length s → ((w ≡ 1 → ⊥) → 0 < u) → (Bytewise s → groupsB left u ≡ part s at next) → Spelt s left at w v c (got (v + u * w) (moved c next))
+  spelt : (u next : ℕ) → at + length (groupsB left u) ≡ next → at < next → next ≤ length s → ((w ≡ 1 → ⊥) → 0 < u) → (Bytewise s → groupsB left u ≡ span s at next) → Spelt s left at w v c (got (v + u * w) (moved c next))
   unread : {n p : ℕ} → Spelt s left at w v c (refused n p)
 
 module _ (left start w v : ℕ) (s : List ℕ) (at : ℕ) (c : Cur) (h : at < length s) where
@@ -85,7 +85,7 @@ pub record Reading (s : List ℕ) (at v next : ℕ) : Type 0 where
   pub long : at + length (numB v) ≡ next
   pub later : at < next
   pub within : next ≤ length s
-  pub bytes : Bytewise s → numB v ≡ part s at next
+  pub bytes : Bytewise s → numB v ≡ span s at next
 
 reading : {s : List ℕ} {at : ℕ} {c : Cur} {q : Got ℕ} (v : ℕ) (next : Cur) → Spelt s 5 at 1 0 c q → q ≡ got v next → Reading s at v (next .at)
 unfolding numB moved
@@ -94,7 +94,7 @@ reading {s} {at} {c} v next (spelt u n long later within some bytes) e =
     let end : moved c n ≡ next = cc in
     let z : u ≡ v = omega arith in
     let m : n ≡ next .at = ap (λ (d : Cur). d .at) end in
-    record { long = ap (λ (i : ℕ). at + length (groupsB 5 i)) (sym z) ∙ long ∙ m; later = omega arith; within = omega arith; bytes = λ b. ap (groupsB 5) (sym z) ∙ bytes b ∙ ap (part s at) m }
+    record { long = ap (λ (i : ℕ). at + length (groupsB 5 i)) (sym z) ∙ long ∙ m; later = omega arith; within = omega arith; bytes = λ b. ap (groupsB 5) (sym z) ∙ bytes b ∙ ap (span s at) m }
 reading v next unread e = let z : _≡_ {A = ℕ} 0 1 = cc in absurd (omega arith)
 
 pub num-reading : (s : List ℕ) (c : Cur) (v : ℕ) (next : Cur) → num s c ≡ got v next → Reading s (c .at) v (next .at)

@@ -18,8 +18,8 @@ unfoldable pub poisonedB : (kind : ℕ) → (names places : List ℕ) → List �
 poisonedB kind names places = numB kind ++ (flatMap numB (take (getD poisonNames kind 0) names) ++ flatMap numB (take (getD poisonPlaces kind 0) places))
 
 -- the bytes of s from `from` to `to`, as far as it has them
-unfoldable pub part : (s : List ℕ) → (from to : ℕ) → List ℕ
-part s from to = take (to - from) (drop from s)
+unfoldable pub span : (s : List ℕ) → (from to : ℕ) → List ℕ
+span s from to = take (to - from) (drop from s)
 
 -- at most n numbers of s from `at` to `to`, each in its shortest form, as far as they can be read
 unfoldable pub renumberedBy : (n : ℕ) → (s : List ℕ) → (at to : ℕ) → List ℕ

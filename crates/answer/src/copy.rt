@@ -5,7 +5,7 @@ use super::wrote::settled;
 use fields::number::Read;
 use fields::number::number;
 ghost use Rattle.answer.specs.Out.{Front, Put};
-ghost use Rattle.answer.specs.Parts.{part, renumbered};
+ghost use Rattle.answer.specs.Parts.{span, renumbered};
 ghost use mathlib.Core.List.{_++_};
 ghost use Rattle.penne.specs.Write.{numB};
 
@@ -44,7 +44,7 @@ pub fn then_bytes(out: &mut [u8], w: Wrote, xs: &[u8]) -> Wrote
 
 // The tree's bytes from `from` to `to`, as far as it has them.
 pub fn then_copy(out: &mut [u8], w: Wrote, tree: &[u8], from: usize, to: usize) -> Wrote
-    ensures { λ r. ⌜ Put w (part (now (tree .entry)) from to) (now (out .entry)) r (now (out .exit)) ⌝ }
+    ensures { λ r. ⌜ Put w (span (now (tree .entry)) from to) (now (out .entry)) r (now (out .exit)) ⌝ }
 {
     if to <= from {
         return settled(out, w);

@@ -12,7 +12,7 @@ use Rattle.fields.specs.Answers.{cursor, countsOf, numberOf, endOf, Gives, Skip
 use Rattle.fields.proofs.Back.{forget-got}
 use Rattle.answer.specs.declared.wrote.Wrote.{Wrote}
 use Rattle.answer.specs.Out.{Put}
-use Rattle.answer.specs.Parts.{renumbered, part}
+use Rattle.answer.specs.Parts.{renumbered, span}
 use Rattle.answer.proofs.Chain.{_▸_}
 use Rattle.walk.specs.declared.state.Walk.{Walk}
 use Rattle.walk.specs.Walking.{here, Moves, Writes, Ground, say, Walks}
@@ -54,12 +54,12 @@ module _ {t : List ℕ} (s : Walk) {m₁ : Read} (g₁ : Gives num t (s .at) m�
       unfolding readImport
       import-placeless e = walks λ h g i. leads-bind bytes _ λ bs c q. leads-at (text-end q) (leads-unplace _ g₃ e)
 
-      pub imported : {p c : ℕ} {x y z : Wrote} {o l w o₁ o₂ o₃ : List ℕ} {s₁ r : Walk} → m₃ ≡ Number p c → Put (s .wrote) (numB 4 ++ renumbered t (s .at) a) o x o₁ → Put x (part t a b) o₁ y o₂ → Put y (numB p) o₂ z o₃ → Writes s z s₁ → Moves s₁ c r
+      pub imported : {p c : ℕ} {x y z : Wrote} {o l w o₁ o₂ o₃ : List ℕ} {s₁ r : Walk} → m₃ ≡ Number p c → Put (s .wrote) (numB 4 ++ renumbered t (s .at) a) o x o₁ → Put x (span t a b) o₁ y o₂ → Put y (numB p) o₂ z o₃ → Writes s z s₁ → Moves s₁ c r
           → Walks t readImport (λ d a. say (declB d) a) s o l w r o₃ l w
       unfolding readImport
       imported {c = c} e₃ p₁ p₂ p₃ wr mv = walks λ h g i. leads-bind bytes _ λ bs d q.
           let here-r = here-after wr mv in
           leads-at (text-end q) (leads-place _ g₃ e₃ (leads-got (import bs _) (record {
             cur = sym here-r;
-            is = is-same (λ _. import-is g (renumbered t (s .at) a) (part t a b) bs _ (ap (λ (u : Cur). renumbered t (s .at) a ++ part t a (u .at)) (text-end q) ∙ bytes-is t (here s) (num-is e₁) q)) (moved (wrote i (p₁ ▸ (p₂ ▸ p₃)) wr) mv);
+            is = is-same (λ _. import-is g (renumbered t (s .at) a) (span t a b) bs _ (ap (λ (u : Cur). renumbered t (s .at) a ++ span t a (u .at)) (text-end q) ∙ bytes-is t (here s) (num-is e₁) q)) (moved (wrote i (p₁ ▸ (p₂ ▸ p₃)) wr) mv);
           })))

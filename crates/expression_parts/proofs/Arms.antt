@@ -7,13 +7,13 @@ use Rattle.penne.specs.Read.{toNodes}
 use Rattle.penne.specs.Write.{numB, placeB, bytesB, identB, maybeB, tyB, carriedB, nodeB}
 use Rattle.penne.specs.State as S
 use Rattle.penne.specs.Variables.{analyzeBase, analyzeMaybeType, analyzeNode}
-use Rattle.answer.specs.Parts.{renumbered, part}
+use Rattle.answer.specs.Parts.{renumbered, span}
 use Rattle.walk.specs.Walking.{Ground, onward, say}
 use Rattle.walk.proofs.Copying.{Spells, spells-is}
 use Rattle.expression_parts.specs.Expressing.{nodes, nodesB, listWalk, Integer, is-signed, is-bits}
 use Rattle.expression_parts.proofs.Onward.{out-same}
 
-pub string-is : (a : Ground) (t : List ℕ) (from to end : ℕ) (b : List ℕ) (p : Spot) → renumbered t from to ++ part t to end ≡ bytesB b → say ((numB 5 ++ renumbered t from to) ++ (part t to end ++ numB (p .number))) a ≡ onward analyzeNode nodeB (string b p) a
+pub string-is : (a : Ground) (t : List ℕ) (from to end : ℕ) (b : List ℕ) (p : Spot) → renumbered t from to ++ span t to end ≡ bytesB b → say ((numB 5 ++ renumbered t from to) ++ (span t to end ++ numB (p .number))) a ≡ onward analyzeNode nodeB (string b p) a
 unfolding analyzeNode nodeB placeB S.ret
 string-is a t from to end b p e = out-same (rw (← e) (simp append-assoc))
 
@@ -32,7 +32,7 @@ module _ {t : List ℕ} {from to : ℕ} (a : Ground) where
   unfolding analyzeNode nodeB S.ret
   boolean-is b p h = out-same (rw (spells-is h))
 
-  pub integer-is : {kind : ℕ} {f : List ℕ → Spot → Carried Spot → Expr Spot} {b : List ℕ} (start : ℕ) (p : Spot) (c : Carried Spot) → Integer kind f → b ≡ part t start from → Spells t from to (placeB p ++ carriedB c) → say (numB kind ++ (part t start from ++ renumbered t from to)) a ≡ onward analyzeNode nodeB (f b p c) a
+  pub integer-is : {kind : ℕ} {f : List ℕ → Spot → Carried Spot → Expr Spot} {b : List ℕ} (start : ℕ) (p : Spot) (c : Carried Spot) → Integer kind f → b ≡ span t start from → Spells t from to (placeB p ++ carriedB c) → say (numB kind ++ (span t start from ++ renumbered t from to)) a ≡ onward analyzeNode nodeB (f b p c) a
   unfolding analyzeNode nodeB S.ret
   integer-is start p c is-signed e h = out-same (rw (e, spells-is h))
   integer-is start p c is-bits e h = out-same (rw (e, spells-is h))

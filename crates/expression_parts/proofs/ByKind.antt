@@ -15,7 +15,7 @@ use Rattle.penne.specs.Write.{numB, bytesB, nodeB}
 use Rattle.penne.specs.State as S
 use Rattle.penne.specs.Variables.{analyzeNode}
 use Rattle.nodes.proofs.Nodes.{bad-kind}
-use Rattle.answer.specs.Parts.{renumbered, part}
+use Rattle.answer.specs.Parts.{renumbered, span}
 use Rattle.walk.specs.declared.state.Walk.{Walk}
 use Rattle.walk.specs.Walking.{Ground, onward, sayPoison, Walks}
 use Rattle.walk.proofs.Leading.{never, same-value, same-cur, bind-got, walks, leads-call, leads-end}
@@ -49,11 +49,11 @@ module _ (R : Readers) {t : List ℕ} {f : Node Spot (one step) → Ground → G
 
 -- what n bytes are
 record Text (n from to : ℕ) (s b : List ℕ) : Type 0 where
-  pub is : b ≡ part s from to
+  pub is : b ≡ span s from to
   pub long : length b ≡ n
 
 raw-go : (n : ℕ) (s : List ℕ) (c : Cur) (x : Bool) → leb (c .at + n) (length s) ≡ x → {b : List ℕ} {d : Cur} → _≡_ {A = Got (List ℕ)} (elim x [ true ↦ got (take n (drop (c .at) s)) (moved c (c .at + n)) | false ↦ refused 3 (c .at) ]) (got b d) → Text n (c .at) (d .at) s b
-unfolding part moved
+unfolding span moved
 raw-go n s c true e {b} {d} g =
     let h = leb-true (c .at + n) (length s) e in
     let q : c .at + n ≡ d .at = ap (λ (x : Cur). x .at) (same-cur g) in
@@ -65,11 +65,11 @@ raw-got : (n : ℕ) (s : List ℕ) (c : Cur) {b : List ℕ} {d : Cur} → raw n 
 unfolding raw
 raw-got n s c g = raw-go n s c (leb (c .at + n) (length s)) refl g
 
-pub raw-is : (n : ℕ) (s : List ℕ) (c : Cur) {b : List ℕ} {d : Cur} → raw n s c ≡ got b d → b ≡ part s (c .at) (d .at)
+pub raw-is : (n : ℕ) (s : List ℕ) (c : Cur) {b : List ℕ} {d : Cur} → raw n s c ≡ got b d → b ≡ span s (c .at) (d .at)
 raw-is n s c g = raw-got n s c g .is
 
 -- a length and so many bytes, where the length ends at `to`
-pub bytes-is : (s : List ℕ) (c : Cur) {b : List ℕ} {d : Cur} {v : ℕ} {e : Cur} → num s c ≡ got v e → bytes s c ≡ got b d → renumbered s (c .at) (e .at) ++ part s (e .at) (d .at) ≡ bytesB b
+pub bytes-is : (s : List ℕ) (c : Cur) {b : List ℕ} {d : Cur} {v : ℕ} {e : Cur} → num s c ≡ got v e → bytes s c ≡ got b d → renumbered s (c .at) (e .at) ++ span s (e .at) (d .at) ≡ bytesB b
 unfolding bytes bytesB
 bytes-is s c {b} {d} {v} {e} h g =
     let z = bind-got num raw s c g in
@@ -77,4 +77,4 @@ bytes-is s c {b} {d} {v} {e} h g =
     let x = raw-got (z .0) s (z .1) (z .3) in
     let q : z .1 .at ≡ e .at = ap (λ (y : Cur). y .at) (sym (same-cur k)) in
     let n : v ≡ length b = same-value k ∙ sym (x .long) in
-    ap (λ (l : List ℕ). l ++ part s (e .at) (d .at)) (spells-is (spells-num s c h)) ∙ ap (λ (i : ℕ). numB i ++ part s (e .at) (d .at)) n ∙ ap (λ (l : List ℕ). numB (length b) ++ l) (ap (λ (i : ℕ). part s i (d .at)) (sym q) ∙ sym (x .is))
+    ap (λ (l : List ℕ). l ++ span s (e .at) (d .at)) (spells-is (spells-num s c h)) ∙ ap (λ (i : ℕ). numB i ++ span s (e .at) (d .at)) n ∙ ap (λ (l : List ℕ). numB (length b) ++ l) (ap (λ (i : ℕ). span s i (d .at)) (sym q) ∙ sym (x .is))

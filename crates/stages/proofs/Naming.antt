@@ -20,7 +20,7 @@ use Rattle.name_table.proofs.Names.{refused-not}
 use Rattle.answer.specs.declared.wrote.Wrote.{Wrote}
 use Rattle.answer.specs.declared.wrote.Wrote.the-variants.{Bytes}
 use Rattle.answer.specs.Out.{Put}
-use Rattle.answer.specs.Parts.{part}
+use Rattle.answer.specs.Parts.{span}
 use Rattle.answer.proofs.Chain.{_▸_, put-none, put-within}
 use Rattle.containers.proofs.Lists.{and-true}
 use Rattle.walk.specs.Walking.{Input}
@@ -124,8 +124,8 @@ module _ {s o : List ℕ} {v : Wrote} {n at₀ rest at : ℕ} {w : Wrote} {o′ 
     pub copying-far : {y : Wrote} {e₀ a : List ℕ} → num s (cursor 0 0 nothing) ≡ got n (cursor at₀ 0 nothing) → 65535 < from → SaysNames s e₀ y a
     copying-far f h = record { does = λ i t. next-told f i t λ b y q. let k : from ≡ y .from = cc in absurd (omega (arith, y .inside, i .short)) }
 
-    pub copying-more : {u : Wrote} {a : List ℕ} → Put w (numB m ++ part s from (from + m)) o′ u a → length a ≡ length o′ → Copying s o v n at₀ (rest - 1) (from + m) u a
-    unfolding part bytesB
+    pub copying-more : {u : Wrote} {a : List ℕ} → Put w (numB m ++ span s from (from + m)) o′ u a → length a ≡ length o′ → Copying s o v n at₀ (rest - 1) (from + m) u a
+    unfolding span bytesB
     copying-more {u} {a} p long = record {
       long = long ∙ c .long;
       on = λ i {x} {d} q.

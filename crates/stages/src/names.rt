@@ -9,7 +9,7 @@ use name_table::same;
 ghost use mathlib.Core.List.{_++_};
 ghost use Rattle.penne.specs.Write.{numB};
 ghost use Rattle.answer.specs.Out.{Put};
-ghost use Rattle.answer.specs.Parts.{part};
+ghost use Rattle.answer.specs.Parts.{span};
 ghost use Rattle.stages.specs.Stages.{SaysNames, MainName};
 
 // "The answer keeps the names."
@@ -43,7 +43,7 @@ pub fn then_names(tree: &[u8], answer: &mut [u8]) -> Wrote
 }
 
 fn then_name(tree: &[u8], answer: &mut [u8], w: Wrote, length: u32, from: usize, to: usize) -> Wrote
-    ensures { λ r. ⌜ Put w (numB length ++ part (now (tree .entry)) from to) (now (answer .entry)) r (now (answer .exit)) ⌝ }
+    ensures { λ r. ⌜ Put w (numB length ++ span (now (tree .entry)) from to) (now (answer .entry)) r (now (answer .exit)) ⌝ }
 {
     let x = then_number(answer, w, length);
     then_copy(answer, x, tree, from, to)
