@@ -1,4 +1,6 @@
 // The answered tree, written part by part into the rest of a lent buffer.
+#![tactic(auto)]
+
 pub mod wrote; // the cursor, which stops where the room ends
 pub mod number; // numbers, and runs of numbers
 pub mod identifier; // identifiers

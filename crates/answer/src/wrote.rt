@@ -3,7 +3,7 @@ ghost use Rattle.std.specs.Prelude.{[]};
 ghost use Rattle.answer.specs.Out.{Put};
 
 // So many bytes (of the list: words), or more than there is room for: after that nothing is written any more.
-#[derive(Drop)]
+#[derive(Clone, Copy)]
 pub enum Wrote {
     Bytes(usize),
     NoRoom,

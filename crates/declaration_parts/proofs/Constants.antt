@@ -6,7 +6,6 @@ use mathlib.Core.Option.{Option, none, some}
 use Prim.Native.Nat.{ℕ, ◌+◌, ◌<◌}
 use native.Mathlib.Omega.{arith}
 use lib.ListN.{length, take}
-use Rattle.penne.specs.Reader.{◌>>=◌, ret}
 use Rattle.penne.specs.Tree.{Spot, Ident, Maybe, Ty, expr, Expr, Decl, constant}
 use Rattle.penne.specs.Read.{maybe, read, read_ty}
 use Rattle.penne.specs.Write.{num_b, place_b, ident_b, node_b, maybe_b, ty_b, decl_b}

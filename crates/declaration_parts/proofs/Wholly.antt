@@ -17,7 +17,6 @@ use Rattle.penne.specs.Variables.{declared_as, predeclare, analyze_decl, in_turn
 use Rattle.penne.specs.Labels.{label_references}
 use Rattle.penne.specs.Scoper.{analyze}
 use Rattle.penne.proofs.IdsPass.{face, SameNames, same_faces, still_decl}
-use Rattle.penne.specs.Reader.{◌>>=◌, ret}
 use Rattle.penne.proofs.IdsWhole.{ids_all}
 use Rattle.penne.proofs.Booleans.{both_true}
 use Rattle.tree.specs.declared.script.Layout.{Layout}

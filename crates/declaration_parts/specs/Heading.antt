@@ -11,7 +11,6 @@ use Rattle.fields.specs.declared.number.Read.TheVariants.{Number}
 use Rattle.fields.specs.declared.field.Identifier.{Identifier}
 use Rattle.fields.specs.Answers.{cursor, counts_of, Gives}
 use Rattle.answer.specs.Parts.{renumbered}
-use Rattle.containers.specs.Table.{at}
 use Rattle.containers.specs.Calls.{of_kind}
 use Rattle.label_references.specs.Marked.{marked_decl}
 use Rattle.walk.specs.declared.state.Walk.{Walk}

@@ -1,4 +1,6 @@
 // analyze of Declaration, but for bodies: constants, structures, heads, imports, what a declaration begins with, and what stands in the place of a duplicate.
+#![tactic(auto)]
+
 ghost use Rattle.std.specs.Prelude.{ℕ, ◌<◌, ◌≡◌, false, true, List, ◌++◌};
 ghost use Rattle.penne.specs.Tree.{Spot};
 ghost use Rattle.penne.specs.Read.{read_decl, read_import};

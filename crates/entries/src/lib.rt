@@ -1,4 +1,6 @@
 // analyze of Parameter and Member.
+#![tactic(auto)]
+
 ghost use Rattle.std.specs.Prelude.{ℕ, false, true, List};
 ghost use Rattle.penne.specs.Tree.{Spot, Ident};
 ghost use Rattle.penne.specs.Read.{read_param};

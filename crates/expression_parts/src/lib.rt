@@ -1,4 +1,6 @@
 // What an expression is made of that holds no expression: values without parts, names, the numbers that arrays and calls carry.
+#![tactic(auto)]
+
 ghost use Rattle.std.specs.Prelude.{ℕ, false, List};
 ghost use Rattle.penne.specs.Reader.{num};
 ghost use Rattle.penne.specs.Tree.{Spot, Carried, Expr, expr};

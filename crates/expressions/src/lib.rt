@@ -1,5 +1,7 @@
 // analyze of Expression, Array, Reference and ReferenceStep, which hold one another. `left` is how many levels of nesting are left.
 // Where a part cannot be read the walk stops there: the tree was read before, so that this does not happen.
+#![tactic(auto)]
+
 ghost use Rattle.std.specs.Prelude.{ℕ, false, List, get_or};
 ghost use Rattle.penne.specs.Reader.{listed};
 ghost use Rattle.penne.specs.Tree.{expr, ref, step};
@@ -21,7 +23,7 @@ use walk::items::{copy_poison, write_fault};
 use walk::names::{Used, closed, opened, use_called};
 use walk::state::Walk;
 
-#[cycle(array_literal_binary_bit_cast_deref_element_expression_expression_of_expressions_function_call_item_items_length_of_array_parenthesized_reference_step_steps_structural_type_cast_unary)]
+#[cycle(expressions)]
 pub fn expression(
     tree: &[u8],
     answer: &mut [u8],
@@ -44,7 +46,7 @@ pub fn expression(
 }
 
 // What follows an expression's kind.
-#[cycle(array_literal_binary_bit_cast_deref_element_expression_expression_of_expressions_function_call_item_items_length_of_array_parenthesized_reference_step_steps_structural_type_cast_unary)]
+#[cycle(expressions)]
 fn expression_of(
     tree: &[u8],
     answer: &mut [u8],
@@ -76,7 +78,7 @@ fn expression_of(
     }
 }
 
-#[cycle(array_literal_binary_bit_cast_deref_element_expression_expression_of_expressions_function_call_item_items_length_of_array_parenthesized_reference_step_steps_structural_type_cast_unary)]
+#[cycle(expressions)]
 fn binary(
     tree: &[u8],
     answer: &mut [u8],
@@ -98,7 +100,7 @@ fn binary(
     expression(tree, answer, list, work, s, left)
 }
 
-#[cycle(array_literal_binary_bit_cast_deref_element_expression_expression_of_expressions_function_call_item_items_length_of_array_parenthesized_reference_step_steps_structural_type_cast_unary)]
+#[cycle(expressions)]
 fn unary(
     tree: &[u8],
     answer: &mut [u8],
@@ -120,7 +122,7 @@ fn unary(
 }
 
 // Its id is the next one behind its elements.
-#[cycle(array_literal_binary_bit_cast_deref_element_expression_expression_of_expressions_function_call_item_items_length_of_array_parenthesized_reference_step_steps_structural_type_cast_unary)]
+#[cycle(expressions)]
 fn array_literal(
     tree: &[u8],
     answer: &mut [u8],
@@ -146,7 +148,7 @@ fn array_literal(
     array_id(tree, answer, closed(work, s, st))
 }
 
-#[cycle(array_literal_binary_bit_cast_deref_element_expression_expression_of_expressions_function_call_item_items_length_of_array_parenthesized_reference_step_steps_structural_type_cast_unary)]
+#[cycle(expressions)]
 fn structural(
     tree: &[u8],
     answer: &mut [u8],
@@ -168,7 +170,7 @@ fn structural(
     maybe_type(tree, answer, work, s, left)
 }
 
-#[cycle(array_literal_binary_bit_cast_deref_element_expression_expression_of_expressions_function_call_item_items_length_of_array_parenthesized_reference_step_steps_structural_type_cast_unary)]
+#[cycle(expressions)]
 fn parenthesized(
     tree: &[u8],
     answer: &mut [u8],
@@ -189,7 +191,7 @@ fn parenthesized(
     expression(tree, answer, list, work, st.wrote(x).moved(a), left)
 }
 
-#[cycle(array_literal_binary_bit_cast_deref_element_expression_expression_of_expressions_function_call_item_items_length_of_array_parenthesized_reference_step_steps_structural_type_cast_unary)]
+#[cycle(expressions)]
 fn deref(
     tree: &[u8],
     answer: &mut [u8],
@@ -210,7 +212,7 @@ fn deref(
     reference(tree, answer, list, work, st.wrote(x).moved(a), left)
 }
 
-#[cycle(array_literal_binary_bit_cast_deref_element_expression_expression_of_expressions_function_call_item_items_length_of_array_parenthesized_reference_step_steps_structural_type_cast_unary)]
+#[cycle(expressions)]
 fn bit_cast(
     tree: &[u8],
     answer: &mut [u8],
@@ -236,7 +238,7 @@ fn bit_cast(
 }
 
 // "A cast whose type is refused never looks at its operand."
-#[cycle(array_literal_binary_bit_cast_deref_element_expression_expression_of_expressions_function_call_item_items_length_of_array_parenthesized_reference_step_steps_structural_type_cast_unary)]
+#[cycle(expressions)]
 fn type_cast(
     tree: &[u8],
     answer: &mut [u8],
@@ -261,7 +263,7 @@ fn type_cast(
     }
 }
 
-#[cycle(array_literal_binary_bit_cast_deref_element_expression_expression_of_expressions_function_call_item_items_length_of_array_parenthesized_reference_step_steps_structural_type_cast_unary)]
+#[cycle(expressions)]
 fn length_of_array(
     tree: &[u8],
     answer: &mut [u8],
@@ -300,7 +302,7 @@ fn size_of(tree: &[u8], answer: &mut [u8], work: &mut [u32], st: Walk, left: u32
 }
 
 // "Arguments of a call to an undefined function are analysed, then dropped with the call."
-#[cycle(array_literal_binary_bit_cast_deref_element_expression_expression_of_expressions_function_call_item_items_length_of_array_parenthesized_reference_step_steps_structural_type_cast_unary)]
+#[cycle(expressions)]
 fn function_call(
     tree: &[u8],
     answer: &mut [u8],
@@ -339,7 +341,7 @@ fn function_call(
 }
 
 // A list of expressions.
-#[cycle(array_literal_binary_bit_cast_deref_element_expression_expression_of_expressions_function_call_item_items_length_of_array_parenthesized_reference_step_steps_structural_type_cast_unary)]
+#[cycle(expressions)]
 pub fn expressions(
     tree: &[u8],
     answer: &mut [u8],
@@ -367,7 +369,7 @@ pub fn expressions(
 }
 
 // The list of a structural literal's members.
-#[cycle(array_literal_binary_bit_cast_deref_element_expression_expression_of_expressions_function_call_item_items_length_of_array_parenthesized_reference_step_steps_structural_type_cast_unary)]
+#[cycle(expressions)]
 fn items(
     tree: &[u8],
     answer: &mut [u8],
@@ -394,7 +396,7 @@ fn items(
     s
 }
 
-#[cycle(array_literal_binary_bit_cast_deref_element_expression_expression_of_expressions_function_call_item_items_length_of_array_parenthesized_reference_step_steps_structural_type_cast_unary)]
+#[cycle(expressions)]
 fn item(
     tree: &[u8],
     answer: &mut [u8],
@@ -419,7 +421,7 @@ fn item(
     expression(tree, answer, list, work, st.wrote(x).moved(b), left)
 }
 
-#[cycle(array_literal_binary_bit_cast_deref_element_expression_expression_of_expressions_function_call_item_items_length_of_array_parenthesized_reference_step_steps_structural_type_cast_unary)]
+#[cycle(expressions)]
 pub fn reference(
     tree: &[u8],
     answer: &mut [u8],
@@ -448,7 +450,7 @@ pub fn reference(
     steps(tree, answer, list, work, s, left - 1)
 }
 
-#[cycle(array_literal_binary_bit_cast_deref_element_expression_expression_of_expressions_function_call_item_items_length_of_array_parenthesized_reference_step_steps_structural_type_cast_unary)]
+#[cycle(expressions)]
 fn steps(
     tree: &[u8],
     answer: &mut [u8],
@@ -475,7 +477,7 @@ fn steps(
     s
 }
 
-#[cycle(array_literal_binary_bit_cast_deref_element_expression_expression_of_expressions_function_call_item_items_length_of_array_parenthesized_reference_step_steps_structural_type_cast_unary)]
+#[cycle(expressions)]
 fn step(
     tree: &[u8],
     answer: &mut [u8],
@@ -500,7 +502,7 @@ fn step(
     member(tree, answer, st.moved(a))
 }
 
-#[cycle(array_literal_binary_bit_cast_deref_element_expression_expression_of_expressions_function_call_item_items_length_of_array_parenthesized_reference_step_steps_structural_type_cast_unary)]
+#[cycle(expressions)]
 fn element(
     tree: &[u8],
     answer: &mut [u8],

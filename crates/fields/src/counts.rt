@@ -6,7 +6,7 @@ ghost use Rattle.fields.specs.Answers.{counts_of, Counting, passed_by};
 
 use super::number::Read;
 
-#[derive(Drop)]
+#[derive(Clone, Copy)]
 pub struct Counts {
     pub containers: u32,
     pub functions: u32,

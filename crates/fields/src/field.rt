@@ -6,7 +6,7 @@ ghost use Rattle.fields.specs.Answers.{Reads, Ends, Skips, Identifies, unidentif
 
 use super::number::{Read, below, number};
 
-#[derive(Drop)]
+#[derive(Clone, Copy)]
 pub struct Identifier {
     pub name: u32,
     pub place: u32,

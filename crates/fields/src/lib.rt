@@ -1,4 +1,6 @@
 // The fields that a script tree is made of, read and not kept: where each ends, or the refusal that document 01's table gives.
+#![tactic(auto)]
+
 pub mod number; // numbers, and numbers below a limit
 pub mod field; // names, identifiers, bytes, runs of places
 pub mod poison; // poisons, by the table of their fields

@@ -1,4 +1,6 @@
 // The C interface. A slice is a pointer and a count. `outcome` gets what fits of: the refusal's number (0: none), its place, then two values; what is left of it is zero.
+#![tactic(auto)]
+
 ghost use Rattle.std.specs.Prelude.{◌≡◌, length};
 ghost use Rattle.penne.specs.Scoper.{get_container_depth, is_container, get_structure_name};
 ghost use Rattle.hurdlebraid.specs.Telling.{Told, told_words, Analyzes, depth_and_kind, name_told, word_of};

@@ -8,8 +8,8 @@ use native.Mathlib.Decide.{dec_lt}
 use lib.ListN.{length, get_or, take, drop, replicate, length-append, length-replicate, get_or-replicate, get_or-append}
 use lib.Seq.{length-take-le, get_or-take, get_or-drop, get_or-append-add}
 use borrow.Rule.Slice.PartMut.{mid_of, post_of, put_mid, mid_len}
-use Rattle.penne.specs.Tree.{Spot, Ident, ok, err, stmt, stmts, Stm, Body, Decl, constant, function, function_head, structure, import, bad_decl}
-use Rattle.penne.specs.Reader.{Counts, Cur, Got, got, ret, many, listed, nothing}
+use Rattle.penne.specs.Tree.{Spot, Ident, ok, err, stmt, stmts, Stm, Decl, constant, function, function_head, structure, import, bad_decl}
+use Rattle.penne.specs.Reader.{Cur, Got, got, ret, many, listed, nothing}
 use Rattle.penne.specs.Read.{to_stms, read_stmt, read_decl}
 use Rattle.penne.specs.Labels.{Labels, labels, labels_body, labels_decl, pop_scope}
 use Rattle.fields.specs.declared.counts.Counts as C

@@ -7,7 +7,7 @@ use native.Mathlib.Omega.{arith}
 use lib.ListN.{length, length-append}
 use Rattle.penne.specs.Tree.{Spot, expr, stmt, Stm, Decl}
 use Rattle.penne.specs.Reader.{Counts, Cur, Got, got, refused, Reader, ◌>>=◌, ret, such, many, listed, plus, fits, counted, counting, nothing, a_container, a_function, an_entry, a_statement}
-use Rattle.penne.specs.Read.{either, maybe, read, to_stms, StmtKind, k_declaration, k_assignment, k_method_call, k_loop, k_goto, k_label, k_if, k_block, k_bad_stmt, stmt_head, stmt_counts, stmt_of, read_stmt, else_of, read_declaration, read_assignment, read_method_call, read_jump, read_if, read_block, read_body, read_param, DeclKind, k_constant, k_function, k_function_head, k_structure, k_import, k_bad_decl, decl_head, decl_counts, decl_of, read_decl, read_constant, read_function, read_function_head, read_structure, read_import}
+use Rattle.penne.specs.Read.{either, maybe, to_stms, StmtKind, k_declaration, k_assignment, k_method_call, k_loop, k_goto, k_label, k_if, k_block, k_bad_stmt, stmt_head, stmt_counts, stmt_of, read_stmt, else_of, read_declaration, read_assignment, read_method_call, read_jump, read_if, read_block, read_body, read_param, DeclKind, k_constant, k_function, k_function_head, k_structure, k_import, k_bad_decl, decl_head, decl_counts, decl_of, read_decl, read_constant, read_function, read_function_head, read_structure, read_import}
 use Rattle.labels.specs.Outcomes.{labels_in, statements_in, body_of, body_labels, labels_in_decls}
 use Rattle.tree.specs.declared.script.Layout.{Layout}
 use Rattle.fields.specs.Answers.{cursor}

@@ -10,7 +10,7 @@ use lib.Seq.{get_or-set_same, get_or-set_other}
 use borrow.Author.Tests.{leb-true}
 use Rattle.penne.specs.Tree.{Spot, Ident, Expr, stmt, else_branch, Stm, goto, label, if_else, block}
 use Rattle.penne.specs.Reader.{Counts, Cur, Got, got, Reader, ◌>>=◌, ret, num, below, many, listed, plus, fits, counted, a_statement, an_entry}
-use Rattle.penne.specs.Read.{place, either, else_of, to_stms, read_stmt, stmt_head, stmt_of, StmtKind, k_declaration, k_assignment, k_method_call, k_loop, k_goto, k_label, k_if, k_block, k_bad_stmt, stmt_kinds, stmt_counts, read_jump, read_block}
+use Rattle.penne.specs.Read.{either, else_of, to_stms, read_stmt, stmt_head, stmt_of, StmtKind, k_declaration, k_assignment, k_method_call, k_loop, k_goto, k_label, k_if, k_block, k_bad_stmt, stmt_kinds, stmt_counts, read_jump, read_block}
 use Rattle.fields.specs.declared.number.Read.{Read}
 use Rattle.fields.specs.declared.number.Read.TheVariants.{Number, Refused}
 use Rattle.fields.specs.declared.field.Identifier.{Identifier}

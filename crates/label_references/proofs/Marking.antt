@@ -63,7 +63,7 @@ pub record Split {A : Type 0} (P : ℕ → A → Type 0) (k : ℕ) (xs ys : List
 
 split : {A : Type 0} {P : ℕ → A → Type 0} {k n : ℕ} (xs ys : List A) → Along P k (xs ++ ys) n → Split P k xs ys n
 split {k = k} [] ys a = record { middle = k; left = stop; right = a }
-split (x ∷ xs) ys (step p a) = let s = split xs ys a in record { middle = s.middle; left = step p s.left; right = s.right }
+split {k = k} (x ∷ xs) ys (step p a) = let s = split {k = k + 1} xs ys a in record { middle = s.middle; left = step p s.left; right = s.right }
 
 -- what the words say of t, where l holds before it
 pub record Marks {s : StmSort} (all : List (Ident Spot)) (t : Stm Spot s) (l : Labels Spot) (n : ℕ) : Type 0 where

@@ -1,7 +1,7 @@
 -- What the laying out promises: whatever the definition reads here, its rows stand in the table afterwards, and the answer is where it ends.
 use Rattle.std.specs.Prelude.{ℕ, suc, ◌+◌, ◌<◌, ◌≤◌, ◌≡◌, List, [], length, get_or}
 use Rattle.penne.specs.Tree.{Spot, Expr, stmt, else_branch, Stm, if_else}
-use Rattle.penne.specs.Reader.{Counts, Cur, Got, got}
+use Rattle.penne.specs.Reader.{Cur, Got, got}
 use Rattle.fields.specs.Answers.{cursor, counts_of}
 use Rattle.fields.specs.declared.counts.Counts as C
 use Rattle.label_references.specs.declared.shape.Shaped.{Shaped}

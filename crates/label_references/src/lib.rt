@@ -1,6 +1,8 @@
 // The first pass: label_references.rs. It decides for every goto and label of the tree what becomes of it; the second pass writes it down.
 //
 // Statements are visited last to first, against the order in which they are read. So a function's statements are first laid out in a table, each with the one before it and the last one inside it.
+#![tactic(auto)]
+
 pub mod shape; // the table of statements
 
 ghost use Rattle.penne.specs.Reader.{many};

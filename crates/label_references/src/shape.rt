@@ -103,7 +103,7 @@ fn inside_function(tree: &[u8], names: u32, at: usize, counts: Counts) -> Start
 }
 
 // A list of statements.
-#[cycle(lay_lay_block_lay_branches_lay_else_lay_list)]
+#[cycle(shape)]
 pub fn lay_list(
     tree: &[u8],
     work: &mut [u32],
@@ -136,7 +136,7 @@ pub fn lay_list(
 }
 
 // The statement at `at`, behind the one of number `previous` less 1; its own number is how many statements are counted before it.
-#[cycle(lay_lay_block_lay_branches_lay_else_lay_list)]
+#[cycle(shape)]
 fn lay(
     tree: &[u8],
     work: &mut [u32],
@@ -247,7 +247,7 @@ fn laid(at: usize, counts: Counts, k: u32) -> Shaped
     Shaped::To(at, counts, k + 1)
 }
 
-#[cycle(lay_lay_block_lay_branches_lay_else_lay_list)]
+#[cycle(shape)]
 fn lay_branches(
     tree: &[u8],
     work: &mut [u32],
@@ -284,7 +284,7 @@ fn lay_branches(
 }
 
 // What follows the then branch of the If of number k.
-#[cycle(lay_lay_block_lay_branches_lay_else_lay_list)]
+#[cycle(shape)]
 fn lay_else(
     tree: &[u8],
     work: &mut [u32],
@@ -317,7 +317,7 @@ fn lay_else(
     laid(behind, after, k)
 }
 
-#[cycle(lay_lay_block_lay_branches_lay_else_lay_list)]
+#[cycle(shape)]
 fn lay_block(
     tree: &[u8],
     work: &mut [u32],

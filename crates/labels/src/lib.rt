@@ -1,5 +1,7 @@
 // Labels in scope, the outermost scope first, each in the order declared; and the visit, last statement first.
 // A label's row is its id less 1. What is decided for a statement, by its number: for a goto the id of its label, 0 where there is none; for a label its id, or 1,024 + the id of the earlier label of its name.
+#![tactic(auto)]
+
 ghost use Rattle.std.specs.Prelude.{ℕ, ◌≤◌, length};
 ghost use Rattle.labels.specs.Visit.{Visits, VisitsKind, VisitsList, Finds, Bears, Sets, LabelWord, Declares, Shows};
 
@@ -10,14 +12,14 @@ use memory::layout::{
 use memory::words::{set_word, word};
 
 // How many labels are in scope, and the next label's id.
-#[derive(Drop)]
+#[derive(Clone, Copy)]
 pub struct Labels {
     pub count: usize,
     pub next: u32,
 }
 
 // The list whose last statement has the number `last` less 1.
-#[cycle(visit_visit_block_visit_branches_visit_list)]
+#[cycle(labels)]
 pub fn visit_list(work: &mut [u32], last: u32, labels: Labels, left: u32) -> Labels
     ensures { VisitsList left last labels work.old result work.new }
 {
@@ -34,7 +36,7 @@ pub fn visit_list(work: &mut [u32], last: u32, labels: Labels, left: u32) -> Lab
     l
 }
 
-#[cycle(visit_visit_block_visit_branches_visit_list)]
+#[cycle(labels)]
 fn visit(work: &mut [u32], k: u32, labels: Labels, left: u32) -> Labels
     ensures { Visits left k labels work.old result work.new }
 {
@@ -52,7 +54,7 @@ fn visit(work: &mut [u32], k: u32, labels: Labels, left: u32) -> Labels
 }
 
 // "but an If's then branch before its else"
-#[cycle(visit_visit_block_visit_branches_visit_list)]
+#[cycle(labels)]
 fn visit_branches(work: &mut [u32], k: u32, labels: Labels, left: u32) -> Labels
     ensures { VisitsKind 6 left k labels work.old result work.new }
 {
@@ -68,7 +70,7 @@ fn visit_branches(work: &mut [u32], k: u32, labels: Labels, left: u32) -> Labels
 }
 
 // The labels of a block go with it, the ids go on.
-#[cycle(visit_visit_block_visit_branches_visit_list)]
+#[cycle(labels)]
 fn visit_block(work: &mut [u32], k: u32, labels: Labels, left: u32) -> Labels
     ensures { VisitsKind 7 left k labels work.old result work.new }
 {

@@ -1,4 +1,6 @@
 // The table of names: so many lengths with their bytes, all different. A length is one byte, since it is at most 64.
+#![tactic(auto)]
+
 ghost use Rattle.std.specs.Prelude.{◌≡◌, true, false, ◌≤◌, length, get_or};
 ghost use Rattle.penne.specs.Read.{same_bytes, among_names};
 ghost use Rattle.name_table.specs.Names.{part, names_from, names_end, OneMore, Tables, hash_of, met_by, Marks, Marked, Knows, Noted};

@@ -1,3 +1,5 @@
 // Types and expressions, which hold parts of their own kind, read and not kept: where each ends, or the refusal that document 01's table gives.
+#![tactic(auto)]
+
 pub mod value_type; // types
 pub mod node; // expressions, references, steps

@@ -10,7 +10,7 @@ use fields::field::{bytes, operator, past_identifier, raw, two_places};
 use fields::number::{Read, below, number};
 use fields::poison::{maybe_identifier, poison};
 
-#[cycle(array_literal_binary_bit_cast_deref_element_expression_expression_of_expressions_function_call_item_items_length_of_array_parenthesized_reference_step_steps_structural_type_cast_unary)]
+#[cycle(node)]
 pub fn expression(tree: &[u8], names: u32, at: usize, left: u32) -> Read
     ensures { Ends (read left expr) tree.now names at result }
 {
@@ -25,7 +25,7 @@ pub fn expression(tree: &[u8], names: u32, at: usize, left: u32) -> Read
 }
 
 // What follows an expression's kind.
-#[cycle(array_literal_binary_bit_cast_deref_element_expression_expression_of_expressions_function_call_item_items_length_of_array_parenthesized_reference_step_steps_structural_type_cast_unary)]
+#[cycle(node)]
 fn expression_of(tree: &[u8], names: u32, at: usize, left: u32, kind: u32) -> Read
     ensures { Ends (expr_of (read left) (read_ty left false) (get_or expr_kinds kind k_bad_expr)) tree.now names at result }
 {
@@ -49,7 +49,7 @@ fn expression_of(tree: &[u8], names: u32, at: usize, left: u32, kind: u32) -> Re
     }
 }
 
-#[cycle(array_literal_binary_bit_cast_deref_element_expression_expression_of_expressions_function_call_item_items_length_of_array_parenthesized_reference_step_steps_structural_type_cast_unary)]
+#[cycle(node)]
 fn binary(tree: &[u8], names: u32, at: usize, left: u32) -> Read
     ensures { Ends (read_binary (read left)) tree.now names at result }
 {
@@ -64,7 +64,7 @@ fn binary(tree: &[u8], names: u32, at: usize, left: u32) -> Read
     expression(tree, names, b, left)
 }
 
-#[cycle(array_literal_binary_bit_cast_deref_element_expression_expression_of_expressions_function_call_item_items_length_of_array_parenthesized_reference_step_steps_structural_type_cast_unary)]
+#[cycle(node)]
 fn unary(tree: &[u8], names: u32, at: usize, left: u32) -> Read
     ensures { Ends (read_unary (read left)) tree.now names at result }
 {
@@ -110,7 +110,7 @@ fn string(tree: &[u8], at: usize) -> Read
     number(tree, a)
 }
 
-#[cycle(array_literal_binary_bit_cast_deref_element_expression_expression_of_expressions_function_call_item_items_length_of_array_parenthesized_reference_step_steps_structural_type_cast_unary)]
+#[cycle(node)]
 fn array_literal(tree: &[u8], names: u32, at: usize, left: u32) -> Read
     ensures { Ends (read_array_literal (read left) (read_ty left false)) tree.now names at result }
 {
@@ -129,7 +129,7 @@ fn array_literal(tree: &[u8], names: u32, at: usize, left: u32) -> Read
     number(tree, c)
 }
 
-#[cycle(array_literal_binary_bit_cast_deref_element_expression_expression_of_expressions_function_call_item_items_length_of_array_parenthesized_reference_step_steps_structural_type_cast_unary)]
+#[cycle(node)]
 fn structural(tree: &[u8], names: u32, at: usize, left: u32) -> Read
     ensures { Ends (read_structural (read left) (read_ty left false)) tree.now names at result }
 {
@@ -144,7 +144,7 @@ fn structural(tree: &[u8], names: u32, at: usize, left: u32) -> Read
     maybe_type(tree, names, false, b, left)
 }
 
-#[cycle(array_literal_binary_bit_cast_deref_element_expression_expression_of_expressions_function_call_item_items_length_of_array_parenthesized_reference_step_steps_structural_type_cast_unary)]
+#[cycle(node)]
 fn parenthesized(tree: &[u8], names: u32, at: usize, left: u32) -> Read
     ensures { Ends (read_parenthesized (read left)) tree.now names at result }
 {
@@ -155,7 +155,7 @@ fn parenthesized(tree: &[u8], names: u32, at: usize, left: u32) -> Read
     expression(tree, names, a, left)
 }
 
-#[cycle(array_literal_binary_bit_cast_deref_element_expression_expression_of_expressions_function_call_item_items_length_of_array_parenthesized_reference_step_steps_structural_type_cast_unary)]
+#[cycle(node)]
 fn deref(tree: &[u8], names: u32, at: usize, left: u32) -> Read
     ensures { Ends (read_deref (read left) (read_ty left false)) tree.now names at result }
 {
@@ -166,7 +166,7 @@ fn deref(tree: &[u8], names: u32, at: usize, left: u32) -> Read
     reference(tree, names, a, left)
 }
 
-#[cycle(array_literal_binary_bit_cast_deref_element_expression_expression_of_expressions_function_call_item_items_length_of_array_parenthesized_reference_step_steps_structural_type_cast_unary)]
+#[cycle(node)]
 fn bit_cast(tree: &[u8], names: u32, at: usize, left: u32) -> Read
     ensures { Ends (read_bit_cast (read left) (read_ty left false)) tree.now names at result }
 {
@@ -181,7 +181,7 @@ fn bit_cast(tree: &[u8], names: u32, at: usize, left: u32) -> Read
     expression(tree, names, b, left)
 }
 
-#[cycle(array_literal_binary_bit_cast_deref_element_expression_expression_of_expressions_function_call_item_items_length_of_array_parenthesized_reference_step_steps_structural_type_cast_unary)]
+#[cycle(node)]
 fn type_cast(tree: &[u8], names: u32, at: usize, left: u32) -> Read
     ensures { Ends (read_type_cast (read left) (read_ty left false)) tree.now names at result }
 {
@@ -196,7 +196,7 @@ fn type_cast(tree: &[u8], names: u32, at: usize, left: u32) -> Read
     expression(tree, names, b, left)
 }
 
-#[cycle(array_literal_binary_bit_cast_deref_element_expression_expression_of_expressions_function_call_item_items_length_of_array_parenthesized_reference_step_steps_structural_type_cast_unary)]
+#[cycle(node)]
 fn length_of_array(tree: &[u8], names: u32, at: usize, left: u32) -> Read
     ensures { Ends (read_length_of_array (read left)) tree.now names at result }
 {
@@ -217,7 +217,7 @@ fn size_of(tree: &[u8], names: u32, at: usize, left: u32) -> Read
     value_type(tree, names, false, a, left)
 }
 
-#[cycle(array_literal_binary_bit_cast_deref_element_expression_expression_of_expressions_function_call_item_items_length_of_array_parenthesized_reference_step_steps_structural_type_cast_unary)]
+#[cycle(node)]
 fn function_call(tree: &[u8], names: u32, at: usize, left: u32) -> Read
     ensures { Ends (read_function_call (read left) (read_ty left false)) tree.now names at result }
 {
@@ -237,7 +237,7 @@ fn function_call(tree: &[u8], names: u32, at: usize, left: u32) -> Read
 }
 
 // A list of expressions.
-#[cycle(array_literal_binary_bit_cast_deref_element_expression_expression_of_expressions_function_call_item_items_length_of_array_parenthesized_reference_step_steps_structural_type_cast_unary)]
+#[cycle(node)]
 pub fn expressions(tree: &[u8], names: u32, at: usize, left: u32) -> Read
     ensures { Ends (listed (read left expr)) tree.now names at result }
 {
@@ -259,7 +259,7 @@ pub fn expressions(tree: &[u8], names: u32, at: usize, left: u32) -> Read
 }
 
 // The list of a structural literal's members.
-#[cycle(array_literal_binary_bit_cast_deref_element_expression_expression_of_expressions_function_call_item_items_length_of_array_parenthesized_reference_step_steps_structural_type_cast_unary)]
+#[cycle(node)]
 fn items(tree: &[u8], names: u32, at: usize, left: u32) -> Read
     ensures { Ends (listed (item_of (read left))) tree.now names at result }
 {
@@ -280,7 +280,7 @@ fn items(tree: &[u8], names: u32, at: usize, left: u32) -> Read
     Read::Number(0, cur)
 }
 
-#[cycle(array_literal_binary_bit_cast_deref_element_expression_expression_of_expressions_function_call_item_items_length_of_array_parenthesized_reference_step_steps_structural_type_cast_unary)]
+#[cycle(node)]
 fn item(tree: &[u8], names: u32, at: usize, left: u32) -> Read
     ensures { Ends (item_of (read left)) tree.now names at result }
 {
@@ -295,7 +295,7 @@ fn item(tree: &[u8], names: u32, at: usize, left: u32) -> Read
     expression(tree, names, b, left)
 }
 
-#[cycle(array_literal_binary_bit_cast_deref_element_expression_expression_of_expressions_function_call_item_items_length_of_array_parenthesized_reference_step_steps_structural_type_cast_unary)]
+#[cycle(node)]
 pub fn reference(tree: &[u8], names: u32, at: usize, left: u32) -> Read
     ensures { Ends (read left ref) tree.now names at result }
 {
@@ -317,7 +317,7 @@ pub fn reference(tree: &[u8], names: u32, at: usize, left: u32) -> Read
     steps(tree, names, c, left - 1)
 }
 
-#[cycle(array_literal_binary_bit_cast_deref_element_expression_expression_of_expressions_function_call_item_items_length_of_array_parenthesized_reference_step_steps_structural_type_cast_unary)]
+#[cycle(node)]
 fn steps(tree: &[u8], names: u32, at: usize, left: u32) -> Read
     ensures { Ends (listed (read left step)) tree.now names at result }
 {
@@ -338,7 +338,7 @@ fn steps(tree: &[u8], names: u32, at: usize, left: u32) -> Read
     Read::Number(0, cur)
 }
 
-#[cycle(array_literal_binary_bit_cast_deref_element_expression_expression_of_expressions_function_call_item_items_length_of_array_parenthesized_reference_step_steps_structural_type_cast_unary)]
+#[cycle(node)]
 fn step(tree: &[u8], names: u32, at: usize, left: u32) -> Read
     ensures { Ends (read left step) tree.now names at result }
 {
@@ -355,7 +355,7 @@ fn step(tree: &[u8], names: u32, at: usize, left: u32) -> Read
     member(tree, names, a)
 }
 
-#[cycle(array_literal_binary_bit_cast_deref_element_expression_expression_of_expressions_function_call_item_items_length_of_array_parenthesized_reference_step_steps_structural_type_cast_unary)]
+#[cycle(node)]
 fn element(tree: &[u8], names: u32, at: usize, left: u32) -> Read
     ensures { Ends (step_of (read left) 0) tree.now names at result }
 {

@@ -8,7 +8,7 @@ use fields::field::past_identifier;
 use fields::number::{Read, below, number};
 use fields::poison::poison;
 
-#[cycle(array_array_with_named_length_type_of_value_type)]
+#[cycle(value_type)]
 pub fn value_type(tree: &[u8], names: u32, own: bool, at: usize, left: u32) -> Read
     ensures { Ends (read_ty left own) tree.now names at result }
 {
@@ -28,7 +28,7 @@ pub fn value_type(tree: &[u8], names: u32, own: bool, at: usize, left: u32) -> R
 }
 
 // What follows a type's kind.
-#[cycle(array_array_with_named_length_type_of_value_type)]
+#[cycle(value_type)]
 fn type_of(tree: &[u8], names: u32, own: bool, at: usize, left: u32, kind: u32) -> Read
     ensures { Ends (ty_of (read_ty left own) (read_ty left false) kind (get_or ty_kinds kind k_plain)) tree.now names at result }
 {
@@ -44,7 +44,7 @@ fn type_of(tree: &[u8], names: u32, own: bool, at: usize, left: u32, kind: u32) 
     }
 }
 
-#[cycle(array_array_with_named_length_type_of_value_type)]
+#[cycle(value_type)]
 fn array(tree: &[u8], names: u32, own: bool, at: usize, left: u32) -> Read
     ensures { Ends (ty_of (read_ty left own) (read_ty left false) 14 k_array) tree.now names at result }
 {
@@ -55,7 +55,7 @@ fn array(tree: &[u8], names: u32, own: bool, at: usize, left: u32) -> Read
     number(tree, a)
 }
 
-#[cycle(array_array_with_named_length_type_of_value_type)]
+#[cycle(value_type)]
 fn array_with_named_length(tree: &[u8], names: u32, own: bool, at: usize, left: u32) -> Read
     ensures { Ends (ty_of (read_ty left own) (read_ty left false) 15 k_named_length) tree.now names at result }
 {

@@ -116,6 +116,7 @@ becomes_by i j no_local x is next a o e h l y = is_other
 becomes_at : {K : ℕ → ℕ → Type 0} {f : ℕ → St} (i : Ident Spot) (t : Target) (o : Option (Ident Spot)) (is : List (Ident Spot)) (next : ℕ) (a : Analyzer Spot) → a.containment.in_constexpr_of_constant ≡ none → first_named i.name is ≡ o → Found (Looks f a.prunings) t o → Found (Known K is next) t o → Becomes K i t (gone_at f t) (Q.use_variable_at i o a).0
 unfolding Q.use_variable_at gone_at
 becomes_at i t (some j) is next a e h (found q) (found y) = becomes_by i j t _ is next a e refl (ap (λ (x : ℕ). first_named x is) (found_name i.name is j h) ∙ h) q y
+becomes_at i (local n d) none is next a e h x y = elim x [ ]
 becomes_at i no_local none is next a e h unfound y = is_other
 
 -- the base of a reference
@@ -208,7 +209,8 @@ answered_call xs b c es (ok j) h s = h s
 answered_call xs b c es (err z) h s = nothing_as refl s
 
 -- a base that came in as a poison is no use
-answered_point : {K : ℕ → ℕ → Type 0} {i : Ident Spot} {r : Maybe Spot (Ident Spot)} {at : ℕ} (b : Maybe Spot (Ident Spot)) (n : Names) (f : ℕ → St) (a : Analyzer Spot) → Sees n f a → Knows K n a → Stands (base (ok i)) (base r) (point (base b)) (point (base (V'.analyze_base b a).0)) at → Answered K f (base_use n b) at i r
+answered_point : {K : ℕ → ℕ → Type 0} {i : Ident Spot} {at : ℕ} (b : Maybe Spot (Ident Spot)) (n : Names) (f : ℕ → St) (a : Analyzer Spot) {r : Maybe Spot (Ident Spot)} → Sees n f a → Knows K n a → Stands (base (ok i)) (base r) (point (base b)) (point (base (V'.analyze_base b a).0)) at → Answered K f (base_use n b) at i r
+answered_point (err z) n f a s k x = elim x [ ]
 answered_point (ok j) n f a s k here = answered_base j n f a s k
 
 -- all that stands of an expression

@@ -140,7 +140,7 @@ either_holds {T} {n} {k} s a c h o₁ o₂ = record {
 complete : {T : List Act} {n k : ℕ} {s : Miss} (a : Sk) → Sits T k (flat a) → Holds T n k s → Holds T n (k + len a) (flow n a s)
 unfolding flat flow miss
 complete skip h o = holds_at (omega arith) o
-complete (seq a c) h o = holds_at (omega (arith, length-append (flat a) (flat c))) (complete c (sits_right (flat a) _ h) (complete a (sits_left _ _ h) o))
+complete {k = k} (seq a c) h o = holds_at (omega (arith, length-append (flat a) (flat c))) (complete {k = k + length (flat a)} c (sits_right (flat a) _ h) (complete a (sits_left _ _ h) o))
 complete (reads u t) h o = record { stands = λ e. moved (omega arith) (go_use (o.stands e) (sits_head _ _ h)); waits = o.waits }
 complete {n = n} {s = s} (runs m) h o = record { stands = λ e. moved (omega arith) (go_run (not_true _ (and_right s.here _ e)) (o.stands (and_left s.here _ e)) (sits_head _ _ h)); waits = o.waits }
 complete {T} {n} {k} {s} (jumps l) h o = record { stands = λ e. moved (omega arith) (go_jump (o.stands e) (sits_head _ _ h)); waits = λ m e. go m (or_case _ _ e) }
@@ -153,16 +153,17 @@ complete {T} {n} {k} {s} (marks l) h o = record { stands = λ e. moved (omega ar
     go : (s.here ≡ true) ⊎ (s.at l ≡ true) → Missing T n k
     go (inl e) = o.stands e
     go (inr e) = go_follow (o.waits l e) (sits_head _ _ h)
-complete {s = s} (either a c) h o =
-    let o₁ = complete a (either_then a c h) (then_holds a c h o) in
-    either_holds s a c h o₁ (complete c (either_else a c h) (else_holds a c h o o₁))
+complete {k = k} {s = s} (either a c) h o =
+    let o₁ = complete {k = k + 1} a (either_then a c h) (then_holds a c h o) in
+    either_holds s a c h o₁ (complete {k = k + 1 + len a + 1} c (either_else a c h) (else_holds a c h o o₁))
 complete (scoped a) h o = complete a h o
 
 -- inside a skeleton
 pub complete_at : {T : List Act} {n k p : ℕ} {x : Act} {b : Bool} {s : Miss} (a : Sk) → Sits T k (flat a) → Holds T n k s → At n p x b a k s → b ≡ true → Missing T n p
 unfolding flat flow miss
+complete_at skip h o i e = elim i [ ]
 complete_at (seq a c) h o (in_first i) e = complete_at a (sits_left _ _ h) o i e
-complete_at (seq a c) h o (in_second i) e = complete_at c (sits_right (flat a) _ h) (complete a (sits_left _ _ h) o) i e
+complete_at {k = k} (seq a c) h o (in_second i) e = complete_at {k = k + len a} c (sits_right (flat a) _ h) (complete a (sits_left _ _ h) o) i e
 complete_at (reads u t) h o (at_read q x y) e = moved (sym q) (o.stands (sym y ∙ e))
 complete_at (runs m) h o (at_run q x y) e = moved (sym q) (o.stands (sym y ∙ e))
 complete_at (jumps l) h o (at_jump q x y) e = moved (sym q) (o.stands (sym y ∙ e))
@@ -173,6 +174,6 @@ complete_at {T} {n} {k} {p} {s = s} (marks l) h o (at_mark q x y) e = moved (sym
     go (inr e) = go_follow (o.waits l e) (sits_head _ _ h)
 complete_at (either a c) h o (at_fork q x y) e = moved (sym q) (o.stands (sym y ∙ e))
 complete_at (either a c) h o (at_past q x y) e = moved (sym q) ((complete a (either_then a c h) (then_holds a c h o)).stands (sym y ∙ e))
-complete_at (either a c) h o (in_then i) e = complete_at a (either_then a c h) (then_holds a c h o) i e
-complete_at (either a c) h o (in_else i) e = complete_at c (either_else a c h) (else_holds a c h o (complete a (either_then a c h) (then_holds a c h o))) i e
+complete_at {k = k} (either a c) h o (in_then i) e = complete_at {k = k + 1} a (either_then a c h) (then_holds a c h o) i e
+complete_at {k = k} (either a c) h o (in_else i) e = complete_at {k = k + 1 + len a + 1} c (either_else a c h) (else_holds a c h o (complete a (either_then a c h) (then_holds a c h o))) i e
 complete_at (scoped a) h o (in_scope i) e = complete_at a h o i e

@@ -205,6 +205,7 @@ looked_by i j no_local standing a o e (l_other q) = looked_standing i j _ a o re
 looked_at : {f : ℕ → St} (i : Ident Spot) (t : Target) (o : Option (Ident Spot)) (a : Analyzer Spot) → a.containment.in_constexpr_of_constant ≡ none → Found (Looks f a.prunings) t o → Looked f (use_of i.place.from t ∷ []) a (Q.use_variable_at i o a).1
 unfolding Q.use_variable_at S.ret gone_use gone_at record_if
 looked_at i t (some j) a e (found q) = looked_by i j t _ a e refl q
+looked_at i (local n d) none a e x = elim x [ ]
 looked_at {f} i no_local none a e unfound = looked_silent _ refl (looked_none f a)
 
 -- the base of a reference

@@ -92,8 +92,9 @@ cong₂ e f = cc
 -- at a use of n the list has what is said there
 read_bit : {n p k u d : ℕ} {x : Act} {b : Bool} (a : Sk) (f : ℕ → Miss) (j : ℕ) → At n p x b a k (f n) → x ≡ use_of u (local n d) → p ≡ k + j → get_or (missed a f) j false ≡ b
 unfolding missed missed_at at_else flat miss is_use
+read_bit skip f j i e q = elim i [ ]
 read_bit (seq a c) f j (in_first i) e q = let (g, h) = bounds a i in get_or_left (missed a f) _ j (omega (arith, missed-length a f)) ∙ read_bit a f j i e q
-read_bit (seq a c) f j (in_second i) e q = let (g, h) = bounds c i in get_or_right (missed a f) _ (j - len a) _ j (missed-length a f) (omega arith) ∙ read_bit c (λ m. flow m a (f m)) (j - len a) i e (omega arith)
+read_bit {k = k} (seq a c) f j (in_second i) e q = let (g, h) = bounds c i in get_or_right (missed a f) _ (j - len a) _ j (missed-length a f) (omega arith) ∙ read_bit {k = k + len a} c (λ m. flow m a (f m)) (j - len a) i e (omega arith)
 read_bit {d = d} (reads u t) f zero (at_read q x y) e r = ap (missed_at f) (use_target_lem (sym x ∙ e)) ∙ sym y
 read_bit (reads u t) f (suc j) (at_read q x y) e r = one_zero (omega arith)
 read_bit (runs m) f j (at_run q x y) e r = not_use refl x e
@@ -102,9 +103,9 @@ read_bit (marks l) f j (at_mark q x y) e r = not_use refl x e
 read_bit (either a c) f j (at_fork q x y) e r = not_use refl x e
 read_bit (either a c) f j (at_past q x y) e r = not_use refl x e
 read_bit (either a c) f zero (in_then i) e q = let (g, h) = bounds a i in one_zero (omega arith)
-read_bit (either a c) f (suc j) (in_then i) e q = let (g, h) = bounds a i in get_or_left (missed a f) _ j (omega (arith, missed-length a f)) ∙ read_bit a f j i e (omega arith)
+read_bit {k = k} (either a c) f (suc j) (in_then i) e q = let (g, h) = bounds a i in get_or_left (missed a f) _ j (omega (arith, missed-length a f)) ∙ read_bit {k = k + 1} a f j i e (omega arith)
 read_bit (either a c) f zero (in_else i) e q = let (g, h) = bounds c i in one_zero (omega arith)
-read_bit (either a c) f (suc j) (in_else i) e q = let (g, h) = bounds c i in get_or_right (missed a f) _ (suc (j - len a - 1)) _ j (missed-length a f) (omega arith) ∙ read_bit c (λ m. miss (f m).here (flow m a (f m)).at) (j - len a - 1) i e (omega arith)
+read_bit {k = k} (either a c) f (suc j) (in_else i) e q = let (g, h) = bounds c i in get_or_right (missed a f) _ (suc (j - len a - 1)) _ j (missed-length a f) (omega arith) ∙ read_bit {k = k + 1 + len a + 1} c (λ m. miss (f m).here (flow m a (f m)).at) (j - len a - 1) i e (omega arith)
 read_bit (scoped a) f j (in_scope i) e q = read_bit a f j i e q
 
 -- what is said to be missed is a use of a local
@@ -161,6 +162,8 @@ picked_by (b ∷ bs) (x ∷ xs) = record_if b x ++ picked_by bs xs
 picked_by_lem : (bs : List Bool) (xs : List Act) (g : ℕ → Bool) (at : ℕ) → Fits bs xs → ((j : ℕ) → g (at + j) ≡ get_or bs j false) → picked_by bs xs ≡ picked g at xs
 unfolding picked_by picked
 picked_by_lem [] [] g at f_nil h = refl
+picked_by_lem [] (x ∷ xs) g at f h = elim f [ ]
+picked_by_lem (b ∷ bs) [] g at f h = elim f [ ]
 picked_by_lem (b ∷ bs) (x ∷ xs) g at (f_no f) h = cong₂ (ap (λ (c : Bool). record_if c x) (sym (h 0) ∙ ap g (omega arith))) (picked_by_lem bs xs g (at + 1) f (λ j. ap g (omega arith) ∙ h (suc j)))
 picked_by_lem (b ∷ bs) (x ∷ xs) g at (f_use f) h = cong₂ (ap (λ (c : Bool). record_if c x) (sym (h 0) ∙ ap g (omega arith))) (picked_by_lem bs xs g (at + 1) f (λ j. ap g (omega arith) ∙ h (suc j)))
 

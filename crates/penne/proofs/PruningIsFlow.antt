@@ -354,14 +354,14 @@ unfolding has_run has_mark flow pruned enter back st
 kept {r = r} skip v p = same_run (sym (or-false r)) p.inv
 kept {n} {r} (seq a c) (w_seq v w f g) p =
     let i = kept a v (pre_first p) in
-    same_run (or-or r (has_run n a) (has_run n c)) (kept c w (pre_second (w_seq v w f g) p i))
+    same_run (or-or r (has_run n a) (has_run n c)) (kept {r = r || has_run n a} c w (pre_second (w_seq v w f g) p i))
 kept {r = r} (reads u t) v p = same_run (sym (or-false r)) p.inv
 kept {n} (runs k) v p = inv_run n k p.unrun p.inv (eqb n k) refl
 kept {n} {r} (jumps l) v p = same_run (sym (or-false r)) (inv_jump n l p.inv)
 kept {n} {r} (marks l) v p = same_run (sym (or-false r)) (inv_mark n l (λ e. ⊎_elim inl (λ x. inr (⊎_elim inl (λ f. inr (f l (eq-eqb l l refl))) x)) (p.inner e)) p.inv)
 kept {n} {r} {s = s} (either a c) (w_either v w f g) p =
     let i = kept a v (pre_then p) in
-    let j = same_run (or-or r (has_run n a) (has_run n c)) (kept c w (pre_else (w_either v w f g) p i)) in
+    let j = same_run (or-or r (has_run n a) (has_run n c)) (kept {r = r || has_run n a} c w (pre_else (w_either v w f g) p i)) in
     inv_both (w_either v w f g) p i (inv_back p.inv (λ e. false_or_left _ _ e) (λ e. stays_open n c (enter (back s (pruned n a (enter s)))) e) j)
 kept {n} {s = s} (scoped a) (w_scoped v) p = inv_back p.inv (λ e. false_or_left _ _ e) (λ e. stays_open n a (enter s) e) (kept a v (pre_scope p))
 

@@ -19,7 +19,7 @@ use Rattle.penne.specs.Variables as V'
 use Rattle.penne.proofs.Booleans.{and_left, and_right, true_false, none_some, one_zero}
 use Rattle.penne.proofs.Missed.{Fits, f_nil, f_no, f_use}
 use Rattle.penne.proofs.PruningIsFlow.{St, pruned, gone_at, refused, refused_fits}
-use Rattle.penne.proofs.BodySkeleton.{OnlyUses, o_use, only_uses, only_option, of_use, of_uses, sk, flat-sk, flat_uses}
+use Rattle.penne.proofs.BodySkeleton.{OnlyUses, o_nil, o_use, only_uses, only_option, of_use, of_uses, sk, flat-sk, flat_uses}
 use Rattle.penne.proofs.FirstPass.{is_one}
 use Rattle.penne.proofs.BodyPruning.{same_scope}
 use Rattle.penne.proofs.Steady.{steady_trans, steady_node, steady_maybe, steady_called, steady_option}
@@ -105,6 +105,7 @@ replies_other p e = record { reply = λ at i r s. no_base p e refl s }
 -- uses, one after the other
 marked_uses : {xs : List Act} {at : ℕ} {x : Act} (f : ℕ → St) → OnlyUses xs → Nth xs at x → Marked xs (refused (of_uses xs) f) at x (gone_use f x)
 unfolding of_uses of_use refused pruned gone_use
+marked_uses f o_nil x = elim x [ ]
 marked_uses f (o_use p) n_here = m_here
 marked_uses f (o_use p) (n_later q) = m_later (marked_uses f p q)
 

@@ -44,5 +44,5 @@ left_append (goes p) q = goes (left_append p q)
 -- what is left of rising numbers rises
 pub left_rising : {from to : ℕ} {ns ms : List ℕ} → LeftOf ns ms → Rising from to ms → Rising from to ns
 left_rising neither q = q
-left_rising (stays p) (next g r) = next g (left_rising p r)
-left_rising (goes p) (next g r) = rising_from (omega (arith, g)) (left_rising p r)
+left_rising (stays {x} p) (next g r) = next g (left_rising {from = x + 1} p r)
+left_rising (goes {y} p) (next g r) = rising_from (omega (arith, g)) (left_rising {from = y + 1} p r)

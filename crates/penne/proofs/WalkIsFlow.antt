@@ -1,5 +1,5 @@
 -- Where a walk is that misses a declaration, `flow` says so.
-use Prim.Native.Nat.{ℕ}
+use Prim.Native.Nat.{ℕ, ◌+◌}
 use mathlib.Core.Bool.{Bool, true, false, not}
 use mathlib.Core.List.{List, ◌∷◌}
 use mathlib.Core.Path.{◌≡◌, refl, sym, ◌∙◌, ap}
@@ -68,38 +68,41 @@ not_target f e g = true_false (sym (ap is_target g) ∙ ap is_target e ∙ f)
 -- a goto that may be missing n makes its label wait
 leap : {n p k l : ℕ} {x : Act} {b : Bool} {s : Miss} (a : Sk) → At n p x b a k s → x ≡ jump l → b ≡ true → (jumps_to l a ≡ true) × ((flow n a s).at l ≡ true)
 unfolding flow miss is_jump jumps_to label_of
+leap skip i e t = elim i [ ]
 leap {n} {l = l} (seq a c) (in_first i) e t = let (f, g) = leap a i e t in (or_left _ _ f, grow n l _ c g)
-leap {l = l} (seq a c) (in_second i) e t = let (f, g) = leap c i e t in (or_right (jumps_to l a) _ f, g)
+leap {k = k} {l = l} (seq a c) (in_second i) e t = let (f, g) = leap {k = k + len a} c i e t in (or_right (jumps_to l a) _ f, g)
 leap (reads u t) (at_read q x y) e t' = not_jump refl x e
 leap (runs m) (at_run q x y) e t = not_jump refl x e
 leap {l = l} {s = s} (jumps m) (at_jump q x y) e t = let z : eqb l m ≡ true = eq-eqb l m (ap label_of (sym e ∙ x)) in (z, or_right (s.at l) _ (rw (sym y ∙ t, z)))
 leap (marks m) (at_mark q x y) e t = not_jump refl x e
 leap (either a c) (at_fork q x y) e t = not_jump refl x e
 leap (either a c) (at_past q x y) e t = not_jump refl x e
-leap {n} {l = l} {s = s} (either a c) (in_then i) e t = let (f, g) = leap a i e t in (or_left _ _ f, grow n l (miss s.here (flow n a s).at) c g)
-leap {l = l} (either a c) (in_else i) e t = let (f, g) = leap c i e t in (or_right (jumps_to l a) _ f, g)
+leap {n = n} {k = k} {l = l} {s = s} (either a c) (in_then i) e t = let (f, g) = leap {k = k + 1} a i e t in (or_left _ _ f, grow n l (miss s.here (flow n a s).at) c g)
+leap {k = k} {l = l} (either a c) (in_else i) e t = let (f, g) = leap {k = k + 1 + len a + 1} c i e t in (or_right (jumps_to l a) _ f, g)
 leap (scoped a) (in_scope i) e t = leap a i e t
 
 -- a label's act is a label of the skeleton
 pub marked : {n p k l : ℕ} {x : Act} {b : Bool} {s : Miss} (a : Sk) → At n p x b a k s → x ≡ target l → has_mark l a ≡ true
 unfolding is_target has_mark label_of
+marked skip i e = elim i [ ]
 marked (seq a c) (in_first i) e = or_left _ _ (marked a i e)
-marked {l = l} (seq a c) (in_second i) e = or_right (has_mark l a) _ (marked c i e)
+marked {k = k} {l = l} (seq a c) (in_second i) e = or_right (has_mark l a) _ (marked {k = k + len a} c i e)
 marked (reads u t) (at_read q x y) e = not_target refl x e
 marked (runs m) (at_run q x y) e = not_target refl x e
 marked (jumps m) (at_jump q x y) e = not_target refl x e
 marked {l = l} (marks m) (at_mark q x y) e = eq-eqb l m (ap label_of (sym e ∙ x))
 marked (either a c) (at_fork q x y) e = not_target refl x e
 marked (either a c) (at_past q x y) e = not_target refl x e
-marked (either a c) (in_then i) e = or_left _ _ (marked a i e)
-marked {l = l} (either a c) (in_else i) e = or_right (has_mark l a) _ (marked c i e)
+marked {k = k} (either a c) (in_then i) e = or_left _ _ (marked {k = k + 1} a i e)
+marked {k = k} {l = l} (either a c) (in_else i) e = or_right (has_mark l a) _ (marked {k = k + 1 + len a + 1} c i e)
 marked (scoped a) (in_scope i) e = marked a i e
 
 -- what waits for a label that is not hidden is missed there
 land : {n p k l : ℕ} {x : Act} {b : Bool} {s : Miss} (a : Sk) → At n p x b a k s → x ≡ target l → hides l a ≡ false → s.at l ≡ true → b ≡ true
 unfolding is_target hides label_of
+land skip i e h w = elim i [ ]
 land (seq a c) (in_first i) e h w = land a i e (false_or_left _ _ h) w
-land {n} {l = l} {s = s} (seq a c) (in_second i) e h w = land c i e (false_or_right (hides l a) _ h) (grow n l s a w)
+land {n = n} {k = k} {l = l} {s = s} (seq a c) (in_second i) e h w = land {k = k + len a} c i e (false_or_right (hides l a) _ h) (grow n l s a w)
 land (reads u t) (at_read q x y) e h w = not_target refl x e
 land (runs m) (at_run q x y) e h w = not_target refl x e
 land (jumps m) (at_jump q x y) e h w = not_target refl x e
@@ -113,10 +116,11 @@ land (scoped a) (in_scope i) e h w = true_false (sym (marked a i e) ∙ h)
 -- a goto that is followed
 follow : {n p q k l : ℕ} {x y : Act} {b d : Bool} {s : Miss} (a : Sk) → Well a → At n p x b a k s → x ≡ jump l → b ≡ true → At n q y d a k s → y ≡ target l → d ≡ true
 unfolding is_target is_jump
+follow skip w i e t j e' = elim i [ ]
 follow (seq a c) (w_seq v w f g) (in_first i) e t (in_first j) e' = follow a v i e t j e'
 follow (seq a c) (w_seq v w f g) (in_first i) e t (in_second j) e' = let (z, z') = leap a i e t in land c j e' (g _ z) z'
 follow (seq a c) (w_seq v w f g) (in_second i) e t (in_first j) e' = let (z, z') = leap c i e t in true_false (sym (marked a j e') ∙ f _ z)
-follow (seq a c) (w_seq v w f g) (in_second i) e t (in_second j) e' = follow c w i e t j e'
+follow {k = k} (seq a c) (w_seq v w f g) (in_second i) e t (in_second j) e' = follow {k = k + len a} c w i e t j e'
 follow (reads u t) w (at_read q x y) e t' j e' = not_jump refl x e
 follow (runs m) w (at_run q x y) e t j e' = not_jump refl x e
 follow (jumps m) w (at_jump q x y) e t (at_jump q₁ x₁ y₁) e' = not_target refl x₁ e'
@@ -125,20 +129,21 @@ follow (either a c) w (at_fork q x y) e t j e' = not_jump refl x e
 follow (either a c) w (at_past q x y) e t j e' = not_jump refl x e
 follow (either a c) w (in_then i) e t (at_fork q₁ x₁ y₁) e' = not_target refl x₁ e'
 follow (either a c) w (in_then i) e t (at_past q₁ x₁ y₁) e' = not_target refl x₁ e'
-follow (either a c) (w_either v w f g) (in_then i) e t (in_then j) e' = follow a v i e t j e'
+follow {k = k} (either a c) (w_either v w f g) (in_then i) e t (in_then j) e' = follow {k = k + 1} a v i e t j e'
 follow (either a c) (w_either v w f g) (in_then i) e t (in_else j) e' = let (z, z') = leap a i e t in true_false (sym (marked c j e') ∙ f _ z)
 follow (either a c) w (in_else i) e t (at_fork q₁ x₁ y₁) e' = not_target refl x₁ e'
 follow (either a c) w (in_else i) e t (at_past q₁ x₁ y₁) e' = not_target refl x₁ e'
 follow (either a c) (w_either v w f g) (in_else i) e t (in_then j) e' = let (z, z') = leap c i e t in true_false (sym (marked a j e') ∙ g _ z)
-follow (either a c) (w_either v w f g) (in_else i) e t (in_else j) e' = follow c w i e t j e'
+follow {k = k} (either a c) (w_either v w f g) (in_else i) e t (in_else j) e' = follow {k = k + 1 + len a + 1} c w i e t j e'
 follow (scoped a) (w_scoped v) (in_scope i) e t (in_scope j) e' = follow a v i e t j e'
 
 -- one place has one act
 same_act : {n p k : ℕ} {x y : Act} {b d : Bool} {s : Miss} (a : Sk) → At n p x b a k s → At n p y d a k s → y ≡ x
+same_act skip i j = elim i [ ]
 same_act (seq a c) (in_first i) (in_first j) = same_act a i j
 same_act (seq a c) (in_first i) (in_second j) = let (f, g) = bounds a i in let (f', g') = bounds c j in one_zero (omega arith)
 same_act (seq a c) (in_second i) (in_first j) = let (f, g) = bounds c i in let (f', g') = bounds a j in one_zero (omega arith)
-same_act (seq a c) (in_second i) (in_second j) = same_act c i j
+same_act {k = k} (seq a c) (in_second i) (in_second j) = same_act {k = k + len a} c i j
 same_act (reads u t) (at_read q x y) (at_read q₁ x₁ y₁) = x₁ ∙ sym x
 same_act (runs m) (at_run q x y) (at_run q₁ x₁ y₁) = x₁ ∙ sym x
 same_act (jumps l) (at_jump q x y) (at_jump q₁ x₁ y₁) = x₁ ∙ sym x
@@ -153,12 +158,12 @@ same_act (either a c) (at_past q x y) (in_then j) = let (f, g) = bounds a j in o
 same_act (either a c) (at_past q x y) (in_else j) = let (f, g) = bounds c j in one_zero (omega arith)
 same_act (either a c) (in_then i) (at_fork q₁ x₁ y₁) = let (f, g) = bounds a i in one_zero (omega arith)
 same_act (either a c) (in_then i) (at_past q₁ x₁ y₁) = let (f, g) = bounds a i in one_zero (omega arith)
-same_act (either a c) (in_then i) (in_then j) = same_act a i j
+same_act {k = k} (either a c) (in_then i) (in_then j) = same_act {k = k + 1} a i j
 same_act (either a c) (in_then i) (in_else j) = let (f, g) = bounds a i in let (f', g') = bounds c j in one_zero (omega arith)
 same_act (either a c) (in_else i) (at_fork q₁ x₁ y₁) = let (f, g) = bounds c i in one_zero (omega arith)
 same_act (either a c) (in_else i) (at_past q₁ x₁ y₁) = let (f, g) = bounds c i in one_zero (omega arith)
 same_act (either a c) (in_else i) (in_then j) = let (f, g) = bounds c i in let (f', g') = bounds a j in one_zero (omega arith)
-same_act (either a c) (in_else i) (in_else j) = same_act c i j
+same_act {k = k} (either a c) (in_else i) (in_else j) = same_act {k = k + 1 + len a + 1} c i j
 same_act (scoped a) (in_scope i) (in_scope j) = same_act a i j
 
 -- WALKS
@@ -204,7 +209,7 @@ unfolding is_in
 is_in_tail n m ms h = rw (is_in_head n m ms h, is_in) at h
 
 -- a walk that misses n is where the skeleton says so
-pub sound : {n p : ℕ} {ran : List ℕ} (a : Sk) → Well a → Walk (flat a) p ran → is_in n ran ≡ false → Said n a p
+pub sound : {n : ℕ} (a : Sk) {p : ℕ} {ran : List ℕ} → Well a → Walk (flat a) p ran → is_in n ran ≡ false → Said n a p
 unfolding passes fresh miss
 sound {n} a v start h = record { inside = λ x b i. entry a i refl refl; behind = λ e. empty n _ a (sym e) refl }
 sound a v (examine w e) h = said_next a e (on refl refl) (sound a v w h)

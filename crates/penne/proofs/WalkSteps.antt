@@ -56,23 +56,24 @@ find n (scoped a) k s j x p q h = let (b, i) = find n a k s j x p q h in (b, in_
 -- it stands between the skeleton's ends
 pub bounds : {n p k : ℕ} {x : Act} {b : Bool} {s : Miss} (a : Sk) → At n p x b a k s → (k ≤ p) × (p < k + len a)
 unfolding flat
+bounds skip i = elim i [ ]
 bounds (seq a c) (in_first i) = let (e, f) = bounds a i in (e, omega (arith, length-append (flat a) (flat c)))
-bounds (seq a c) (in_second i) = let (e, f) = bounds c i in (omega arith, omega (arith, length-append (flat a) (flat c)))
+bounds {k = k} (seq a c) (in_second i) = let (e, f) = bounds {k = k + len a} c i in (omega arith, omega (arith, length-append (flat a) (flat c)))
 bounds (reads u t) (at_read q x y) = (omega arith, omega arith)
 bounds (runs m) (at_run q x y) = (omega arith, omega arith)
 bounds (jumps l) (at_jump q x y) = (omega arith, omega arith)
 bounds (marks l) (at_mark q x y) = (omega arith, omega arith)
 bounds (either a c) (at_fork q x y) = (omega arith, omega (arith, either-len a c))
 bounds (either a c) (at_past q x y) = (omega arith, omega (arith, either-len a c))
-bounds (either a c) (in_then i) = let (e, f) = bounds a i in (omega arith, omega (arith, either-len a c))
-bounds (either a c) (in_else i) = let (e, f) = bounds c i in (omega arith, omega (arith, either-len a c))
+bounds {k = k} (either a c) (in_then i) = let (e, f) = bounds {k = k + 1} a i in (omega arith, omega (arith, either-len a c))
+bounds {k = k} (either a c) (in_else i) = let (e, f) = bounds {k = k + 1 + len a + 1} c i in (omega arith, omega (arith, either-len a c))
 bounds (scoped a) (in_scope i) = bounds a i
 
 -- a skeleton without acts changes nothing
 pub empty : (n : ℕ) (s : Miss) (a : Sk) → len a ≡ 0 → s.here ≡ true → (flow n a s).here ≡ true
 unfolding flat flow miss
 empty n s skip e h = h
-empty n s (seq a c) e h = empty n _ c (omega (arith, length-append (flat a) (flat c))) (empty n s a (omega (arith, length-append (flat a) (flat c))) h)
+empty n s (seq a c) e h = empty n (flow n a s) c (omega (arith, length-append (flat a) (flat c))) (empty n s a (omega (arith, length-append (flat a) (flat c))) h)
 empty n s (reads u t) e h = h
 empty n s (runs m) e h = let z : ◌≡◌ {A = ℕ} 1 0 = e in cc
 empty n s (jumps l) e h = h
@@ -83,8 +84,9 @@ empty n s (scoped a) e h = empty n s a e h
 -- what stands at the entrance is missed at the first act
 pub entry : {n p k : ℕ} {x : Act} {b : Bool} {s : Miss} (a : Sk) → At n p x b a k s → p ≡ k → s.here ≡ true → b ≡ true
 unfolding flat
+entry skip i e h = elim i [ ]
 entry (seq a c) (in_first i) e h = entry a i e h
-entry (seq a c) (in_second i) e h = let (f, g) = bounds c i in entry c i (omega arith) (empty _ _ a (omega arith) h)
+entry {k = k} (seq a c) (in_second i) e h = let (f, g) = bounds c i in entry {k = k + len a} c i (omega arith) (empty _ _ a (omega arith) h)
 entry (reads u t) (at_read q x y) e h = y ∙ h
 entry (runs m) (at_run q x y) e h = y ∙ h
 entry (jumps l) (at_jump q x y) e h = y ∙ h
@@ -162,8 +164,9 @@ step_len {n} {p} {q} {k} e f g h = let (a, b) = next_simple (ap shape f ∙ g) h
 -- a step does not leave the skeleton but by its end
 pub within : {n p q k : ℕ} {x : Act} {b : Bool} {s : Miss} (a : Sk) → At n p x b a k s → Next n p x q → q ≤ k + len a
 unfolding flat shape
+within skip i h = elim i [ ]
 within (seq a c) (in_first i) h = let z = within a i h in omega (arith, length-append (flat a) (flat c))
-within (seq a c) (in_second i) h = let z = within c i h in omega (arith, length-append (flat a) (flat c))
+within {k = k} (seq a c) (in_second i) h = let z = within {k = k + len a} c i h in omega (arith, length-append (flat a) (flat c))
 within (reads u t) (at_read q x y) h = let z = step_len q x refl h in omega arith
 within (runs m) (at_run q x y) h = let z = step_len q x refl h in omega arith
 within (jumps l) (at_jump q x y) h = let z = step_len q x refl h in omega arith
@@ -174,15 +177,16 @@ within {n} {p} {q = q'} {k = k} (either a c) (at_fork q x y) h = go (next_fork x
     go (inl e) = omega (arith, either-len a c)
     go (inr e) = omega (arith, either-len a c)
 within (either a c) (at_past q x y) h = let z = next_past x h in omega (arith, either-len a c)
-within (either a c) (in_then i) h = let z = within a i h in omega (arith, either-len a c)
-within (either a c) (in_else i) h = let z = within c i h in omega (arith, either-len a c)
+within {k = k} (either a c) (in_then i) h = let z = within {k = k + 1} a i h in omega (arith, either-len a c)
+within {k = k} (either a c) (in_else i) h = let z = within {k = k + 1 + len a + 1} c i h in omega (arith, either-len a c)
 within (scoped a) (in_scope i) h = within a i h
 
 -- a step to the end carries what is missed there
 pub leave : {n p q k : ℕ} {x : Act} {b : Bool} {s : Miss} (a : Sk) → At n p x b a k s → b ≡ true → Next n p x q → q ≡ k + len a → (flow n a s).here ≡ true
 unfolding flat shape flow miss passes
+leave skip i t h e = elim i [ ]
 leave {n} {s = s} (seq a c) (in_first i) t h e = let z = within a i h in empty n _ c (omega (arith, length-append (flat a) (flat c))) (leave a i t h (omega (arith, length-append (flat a) (flat c))))
-leave (seq a c) (in_second i) t h e = leave c i t h (omega (arith, length-append (flat a) (flat c)))
+leave {k = k} (seq a c) (in_second i) t h e = leave {k = k + len a} c i t h (omega (arith, length-append (flat a) (flat c)))
 leave (reads u t) (at_read q x y) t' h e = sym y ∙ t'
 leave {n} {s = s} (runs m) (at_run q x y) t h e = let (f, g) = next_simple (ap shape x) h in let g' : not (eqb n m) ≡ true = ap (passes n) (sym x) ∙ g in rw (sym y ∙ t, g')
 leave (jumps l) (at_jump q x y) t h e = sym y ∙ t
@@ -194,16 +198,17 @@ leave {n} {p} {q = q'} {k = k} {s = s} (either a c) (at_fork q x y) t h e = go (
     go (inr f) = or_right (flow n a s).here _ (empty n (miss s.here (flow n a s).at) c (omega (arith, either-len a c)) (sym y ∙ t))
 leave (either a c) (at_past q x y) t h e = or_left _ _ (sym y ∙ t)
 leave (either a c) (in_then i) t h e = let z = within a i h in one_zero (omega (arith, either-len a c))
-leave {n} {s = s} (either a c) (in_else i) t h e = or_right (flow n a s).here _ (leave c i t h (omega (arith, either-len a c)))
+leave {n = n} {k = k} {s = s} (either a c) (in_else i) t h e = or_right (flow n a s).here _ (leave {k = k + 1 + len a + 1} c i t h (omega (arith, either-len a c)))
 leave (scoped a) (in_scope i) t h e = leave a i t h e
 
 -- a step inside carries what is missed there
 pub stay : {n p q k : ℕ} {x y : Act} {b d : Bool} {s : Miss} (a : Sk) → At n p x b a k s → b ≡ true → Next n p x q → At n q y d a k s → d ≡ true
 unfolding flat shape flow miss
+stay skip i t h j = elim i [ ]
 stay (seq a c) (in_first i) t h (in_first j) = stay a i t h j
 stay (seq a c) (in_first i) t h (in_second j) = let z = within a i h in let (f, g) = bounds c j in entry c j (omega arith) (leave a i t h (omega arith))
 stay (seq a c) (in_second i) t h (in_first j) = let z = next_later h in let (f, g) = bounds c i in let (f', g') = bounds a j in one_zero (omega arith)
-stay (seq a c) (in_second i) t h (in_second j) = stay c i t h j
+stay {k = k} (seq a c) (in_second i) t h (in_second j) = stay {k = k + len a} c i t h j
 stay (reads u t) (at_read q x y) t' h (at_read q₁ x₁ y₁) = let z = next_later h in one_zero (omega arith)
 stay (runs m) (at_run q x y) t h (at_run q₁ x₁ y₁) = let z = next_later h in one_zero (omega arith)
 stay (jumps l) (at_jump q x y) t h (at_jump q₁ x₁ y₁) = let z = next_later h in one_zero (omega arith)
@@ -230,10 +235,10 @@ stay (either a c) (at_past q x y) t h (in_then j) = let z = next_later h in let 
 stay (either a c) (at_past q x y) t h (in_else j) = let z = next_past x h in let (f, g) = bounds c j in one_zero (omega arith)
 stay (either a c) (in_then i) t h (at_fork q₁ x₁ y₁) = let z = next_later h in let (f, g) = bounds a i in one_zero (omega arith)
 stay (either a c) (in_then i) t h (at_past q₁ x₁ y₁) = y₁ ∙ leave a i t h (omega arith)
-stay (either a c) (in_then i) t h (in_then j) = stay a i t h j
+stay {k = k} (either a c) (in_then i) t h (in_then j) = stay {k = k + 1} a i t h j
 stay (either a c) (in_then i) t h (in_else j) = let z = within a i h in let (f, g) = bounds c j in one_zero (omega arith)
 stay (either a c) (in_else i) t h (at_fork q₁ x₁ y₁) = let z = next_later h in let (f, g) = bounds c i in one_zero (omega arith)
 stay (either a c) (in_else i) t h (at_past q₁ x₁ y₁) = let z = next_later h in let (f, g) = bounds c i in one_zero (omega arith)
 stay (either a c) (in_else i) t h (in_then j) = let z = next_later h in let (f, g) = bounds c i in let (f', g') = bounds a j in one_zero (omega arith)
-stay (either a c) (in_else i) t h (in_else j) = stay c i t h j
+stay {k = k} (either a c) (in_else i) t h (in_else j) = stay {k = k + 1 + len a + 1} c i t h j
 stay (scoped a) (in_scope i) t h (in_scope j) = stay a i t h j

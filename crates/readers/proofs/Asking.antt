@@ -29,7 +29,7 @@ use Rattle.readers.specs.Asking.{depth_asked, container_asked, unasked_by, NthDe
 -- THE DEPTH BEHIND n OTHERS
 
 pub such_go : {A : Type 0} (test : A → Cur → Bool) (k at : ℕ) (q : Got A) {a : A} {c : Cur} → elim q as (λ _. Got A) [ got x next ↦ elim (test x next) [ true ↦ got x next | false ↦ refused k at ] | refused i p ↦ refused i p ] ≡ got a c → q ≡ got a c
-such_go test k at (got x next) {a} {c} e = (elim (test x next) as (λ t. elim t as (λ _. Got _) [ true ↦ got x next | false ↦ refused k at ] ≡ got a c → got x next ≡ got a c) [
+such_go {A = A} test k at (got x next) {a} {c} e = (elim (test x next) as (λ t. elim t as (λ _. Got A) [ true ↦ got x next | false ↦ refused k at ] ≡ got a c → got x next ≡ got a c) [
   | true ↦ λ h. h
   | false ↦ λ h. never h
 ]) e

@@ -1,4 +1,6 @@
 // scoper.rs: the readers of an answered tree, `get_container_depth`, `is_container`, `get_structure_name`. They need no work memory.
+#![tactic(auto)]
+
 pub mod find; // a declaration, a structure's name number, a name of the table
 
 ghost use Rattle.std.specs.Prelude.{◌≡◌};

@@ -3,15 +3,19 @@
 // length and the number of records. Behind them stand the tree (unless it is too long: then any bytes will do), the
 // answer and the list. All that is lent holds garbage before.
 // Prints a line for each case that differs, then how many cases there were and how many differed.
+#![tactic(auto)]
+
 ghost use Rattle.std.specs.Prelude.{◌≤◌};
 
-use libc::STDOUT_FILENO;
+use input::read_full;
 use memory::bytes::byte;
 use memory::words::{next, word};
 use scoper::Scoped;
+use std::io;
+use std::io::Read;
 
 // A case's numbers.
-#[derive(Drop)]
+#[derive(Clone, Copy)]
 struct Case {
     tree: usize,
     answer: usize,
@@ -159,16 +163,18 @@ fn told(case: Case, scoped: Scoped) -> Part {
 }
 
 // The next `n` bytes of standard input.
-fn read_part(s: &mut [u8], n: usize) {
+fn read_part(input: &mut impl Read, s: &mut [u8], n: usize) -> io::Result<()> {
     let count = least(n, s.len());
-    io::read_full(0, &mut s[..count]);
+    read_full(input, &mut s[..count])?;
+    Ok(())
 }
 
 // A tree that is too long is not there to be read.
-fn read_tree(tree: &mut [u8], case: Case) {
+fn read_tree(input: &mut impl Read, tree: &mut [u8], case: Case) -> io::Result<()> {
     if case.tree < 65536 {
-        read_part(tree, case.tree);
+        read_part(input, tree, case.tree)?;
     }
+    Ok(())
 }
 
 // What the call left behind where it told what it should.
@@ -252,42 +258,41 @@ fn replay(
     )
 }
 
-fn name_of(part: Part) {
+fn name_of(part: Part) -> &'static str {
     match part {
-        Part::Nothing => io::write_all(STDOUT_FILENO, b"nothing\n"),
-        Part::Number => io::write_all(STDOUT_FILENO, b"refusal\n"),
-        Part::Place => io::write_all(STDOUT_FILENO, b"place\n"),
-        Part::Length => io::write_all(STDOUT_FILENO, b"length of the answer\n"),
-        Part::Records => io::write_all(STDOUT_FILENO, b"number of records\n"),
-        Part::Answer => io::write_all(STDOUT_FILENO, b"answer\n"),
-        Part::Tail => io::write_all(STDOUT_FILENO, b"not zero behind answer or list\n"),
-        Part::List => io::write_all(STDOUT_FILENO, b"list\n"),
-        Part::Work => io::write_all(STDOUT_FILENO, b"work memory not zero\n"),
-    };
+        Part::Nothing => "nothing",
+        Part::Number => "refusal",
+        Part::Place => "place",
+        Part::Length => "length of the answer",
+        Part::Records => "number of records",
+        Part::Answer => "answer",
+        Part::Tail => "not zero behind answer or list",
+        Part::List => "list",
+        Part::Work => "work memory not zero",
+    }
 }
 
-fn counted(count: Count, part: Part) -> Count {
+fn counted(rt: &impl Print, count: Count, part: Part) -> io::Result<Count> {
     let cases = next(count.cases);
     match part {
-        Part::Nothing => Count {
+        Part::Nothing => Ok(Count {
             cases: cases,
             differ: count.differ,
-        },
+        }),
         _ => {
-            io::write_all(STDOUT_FILENO, b"case ");
-            io::print_decimal(STDOUT_FILENO, cases as u64);
-            io::write_all(STDOUT_FILENO, b" differs: ");
-            name_of(part);
-            Count {
+            let name = name_of(part);
+            println!(rt; "case {cases} differs: {name}")?;
+            Ok(Count {
                 cases: cases,
                 differ: next(count.differ),
-            }
+            })
         }
     }
 }
 
 // Reads the rest of a case and replays it.
 fn one_case(
+    input: &mut impl Read,
     case: Case,
     tree: &mut [u8],
     answer: &mut [u8],
@@ -295,18 +300,19 @@ fn one_case(
     work: &mut [u32],
     wanted: &mut [u8],
     listed: &mut [u8],
-) -> Part {
-    read_tree(tree, case);
-    read_part(wanted, case.length);
-    read_part(listed, bytes_of(case.records));
-    replay(case, tree, answer, list, work, wanted, listed)
+) -> io::Result<Part> {
+    read_tree(input, tree, case)?;
+    read_part(input, wanted, case.length)?;
+    read_part(input, listed, bytes_of(case.records))?;
+    Ok(replay(case, tree, answer, list, work, wanted, listed))
 }
 
-fn main() {
-    let mut tree = io::large_buffer();
-    let mut answer = io::large_buffer();
-    let mut wanted = io::large_buffer();
-    let mut listed = io::large_buffer();
+fn main(rt: HostRuntime) -> io::Result<()> {
+    let mut input = rt.stdin();
+    let mut tree = [0u8; 65536];
+    let mut answer = [0u8; 65536];
+    let mut wanted = [0u8; 65536];
+    let mut listed = [0u8; 65536];
     let mut list = [0u32; 16384];
     let mut work = [0u32; 16400];
     let mut head = [0u8; 32];
@@ -316,12 +322,13 @@ fn main() {
     };
     let mut left = 10000000u32;
     while left != 0 {
-        let got = io::read_full(0, &mut head);
+        let got = read_full(&mut input, &mut head)?;
         if got < 32 {
             left = 0;
         } else {
             let case = case_of(&head);
             let part = one_case(
+                &mut input,
                 case,
                 &mut tree,
                 &mut answer,
@@ -329,13 +336,10 @@ fn main() {
                 &mut work,
                 &mut wanted,
                 &mut listed,
-            );
-            count = counted(count, part);
+            )?;
+            count = counted(&rt, count, part)?;
             left -= 1;
         }
     }
-    io::print_decimal(STDOUT_FILENO, count.cases as u64);
-    io::write_all(STDOUT_FILENO, b" cases, ");
-    io::print_decimal(STDOUT_FILENO, count.differ as u64);
-    io::write_all(STDOUT_FILENO, b" differ\n");
+    println!(rt; "{} cases, {} differ", count.cases, count.differ)
 }

@@ -2,12 +2,15 @@
 // hexadecimal digits, or `-` for an empty tree; a tree that passes has number 0 and place 0. A line that begins
 // with `a` is about a tree that is read as an answer has it, any other about one that comes in.
 // Prints a line for each case that differs, then how many cases there were and how many differed.
-use libc::STDOUT_FILENO;
+#![tactic(auto)]
+
+use input::read_full;
 use name_table::bytes_at;
+use std::io;
 use tree::Verdict;
 
 // Where a line is read, what it says so far, and what was found.
-#[derive(Drop)]
+#[derive(Clone, Copy)]
 struct Replay {
     field: u32,
     number: u32,
@@ -78,16 +81,16 @@ fn place_of(verdict: Verdict) -> usize {
     }
 }
 
-fn print_case(number: u32, name: &[u8], wanted: u32, verdict: Verdict) {
-    io::write_all(STDOUT_FILENO, b"case ");
-    io::print_decimal(STDOUT_FILENO, number as u64);
-    io::write_all(STDOUT_FILENO, name);
-    io::print_decimal(STDOUT_FILENO, wanted as u64);
-    io::write_all(STDOUT_FILENO, b", read as ");
-    io::print_decimal(STDOUT_FILENO, number_of(verdict) as u64);
-    io::write_all(STDOUT_FILENO, b" at ");
-    io::print_decimal(STDOUT_FILENO, place_of(verdict) as u64);
-    io::write_all(STDOUT_FILENO, b"\n");
+fn print_case(
+    rt: &impl Print,
+    number: u32,
+    name: &str,
+    wanted: u32,
+    verdict: Verdict,
+) -> io::Result<()> {
+    let read = number_of(verdict);
+    let place = place_of(verdict);
+    println!(rt; "case {number}{name}{wanted}, read as {read} at {place}")
 }
 
 fn read(tree: &[u8], answered: bool) -> Verdict {
@@ -98,7 +101,7 @@ fn read(tree: &[u8], answered: bool) -> Verdict {
 }
 
 // The end of a line: the tree is read, and the verdict compared.
-fn compared(r: Replay, tree: &[u8]) -> Replay {
+fn compared(rt: &impl Print, r: Replay, tree: &[u8]) -> io::Result<Replay> {
     let mut next = r;
     next.cases = memory::words::next(r.cases);
     next.field = 0;
@@ -109,60 +112,60 @@ fn compared(r: Replay, tree: &[u8]) -> Replay {
     next.answered = false;
     let verdict = read(bytes_at(tree, 0, r.length), r.answered);
     if number_of(verdict) != r.number {
-        print_case(next.cases, b": wanted number ", r.number, verdict);
+        print_case(rt, next.cases, ": wanted number ", r.number, verdict)?;
         next.differ = memory::words::next(r.differ);
-        return next;
+        return Ok(next);
     }
     if place_of(verdict) != r.place as usize {
-        print_case(next.cases, b": wanted place ", r.place, verdict);
+        print_case(rt, next.cases, ": wanted place ", r.place, verdict)?;
         next.differ = memory::words::next(r.differ);
     }
-    next
+    Ok(next)
 }
 
 // One byte of the text.
-fn step(r: Replay, tree: &mut [u8], byte: u8) -> Replay {
+fn step(rt: &impl Print, r: Replay, tree: &mut [u8], byte: u8) -> io::Result<Replay> {
     if byte == 10 {
-        return compared(r, tree);
+        return compared(rt, r, tree);
     }
     let mut next = r;
     if byte == 32 {
         next.field = memory::words::next(r.field);
-        return next;
+        return Ok(next);
     }
     if byte == 97 {
         if r.field == 0 {
             next.answered = true;
-            return next;
+            return Ok(next);
         }
     }
     if r.field == 0 {
         next.number = with_digit(r.number, byte);
-        return next;
+        return Ok(next);
     }
     if r.field == 1 {
         next.place = with_digit(r.place, byte);
-        return next;
+        return Ok(next);
     }
     if byte == 45 {
-        return next;
+        return Ok(next);
     }
-    with_half(next, tree, byte)
+    Ok(with_half(next, tree, byte))
 }
 
-fn chunk(r: Replay, tree: &mut [u8], text: &[u8]) -> Replay {
+fn chunk(rt: &impl Print, r: Replay, tree: &mut [u8], text: &[u8]) -> io::Result<Replay> {
     let mut next = r;
     let mut at = 0usize;
     while at < text.len() {
-        next = step(next, tree, text[at]);
+        next = step(rt, next, tree, text[at])?;
         at += 1;
     }
-    next
+    Ok(next)
 }
 
-fn main() {
-    let mut tree = io::large_buffer();
-    let mut text = io::buffer();
+fn main(rt: HostRuntime) -> io::Result<()> {
+    let mut tree = [0u8; 65536];
+    let mut text = [0u8; 4096];
     let mut r = Replay {
         field: 0,
         number: 0,
@@ -176,16 +179,13 @@ fn main() {
     };
     let mut chunks = 0u32;
     while chunks < 100000 {
-        let count = io::read_full(0, &mut text);
-        r = chunk(r, &mut tree, &text[..count]);
+        let count = read_full(&mut rt.stdin(), &mut text)?;
+        r = chunk(&rt, r, &mut tree, &text[..count])?;
         if count < 4096 {
             chunks = 100000;
         } else {
             chunks += 1;
         }
     }
-    io::print_decimal(STDOUT_FILENO, r.cases as u64);
-    io::write_all(STDOUT_FILENO, b" cases, ");
-    io::print_decimal(STDOUT_FILENO, r.differ as u64);
-    io::write_all(STDOUT_FILENO, b" differ\n");
+    println!(rt; "{} cases, {} differ", r.cases, r.differ)
 }

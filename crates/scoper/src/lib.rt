@@ -1,4 +1,6 @@
 // scoper.rs: `analyze`. The readers of an answered tree are in the crate `readers`.
+#![tactic(auto)]
+
 pub mod passes; // both passes over a tree that the reader let pass
 
 ghost use Rattle.scoper.specs.Scoping.{Scopes};

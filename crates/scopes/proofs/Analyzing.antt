@@ -95,6 +95,7 @@ in_right x (c ∷ cs) ls e = go (eqb x c.id) refl (in_right x cs ls e)
     go false z f = is_in_past x c.id (ids_of (cs ++ ls)) z ∙ f
 
 nth_in : {k : ℕ} {i : Ident Spot} {ls : List (Ident Spot)} → Nth k i ls → is_in i.id (ids_of ls) ≡ true
+nth_in {ls = []} x'' = elim x'' [ ]
 nth_in {i = i} {ls = _ ∷ ls} here = is_in_here i.id i.id (ids_of ls) (eq-eqb i.id i.id refl)
 nth_in {i = i} {ls = j ∷ ls} (there n) = in_right i.id (j ∷ []) ls (nth_in n)
 
@@ -183,6 +184,7 @@ module _ {s : Scope} {w : List ℕ} {a : Analyzer Spot} (m : Mirrors s w a) wher
       i' = authoritative a i
 
       only : (k : ℕ) (j : Ident Spot) → Nth k j (i' ∷ []) → j.id < a.resolution_id + 1
+      only _ j (there {k = k} x7) = elim x7 [ ]
       only k j here = omega arith
 
       go : (x : ℕ) → is_in x (ids_of (a.variable_stack.constants ++ (i' ∷ []))) ≡ true → Dec (is_in x (ids_of a.variable_stack.constants) ≡ true) → x < a.resolution_id + 1

@@ -11,7 +11,6 @@ use Rattle.penne.specs.Find.{is_in}
 use Rattle.penne.specs.Pruning.{Pruning, Prunings, pruned, poisoned, fate, fate_by, prune, poison_variable}
 use Rattle.penne.specs.Pruning as R
 use Rattle.penne.proofs.Searching.{is_in_here, is_in_past}
-use Rattle.scopes.specs.declared.pruning.Fate.{Fate}
 use Rattle.scopes.specs.Table.{Tells, stands, poisons, prunes}
 use Rattle.scopes.specs.Table as T
 use Rattle.scopes.specs.Jumps.{with_pruned}

@@ -30,11 +30,14 @@ module _ {A : Type 0} where
   snoc_more z (last e q) = last (ap suc e) q
 
   pub nth_snoc : {k : ℕ} {x : A} (xs : List A) {y : A} → Nth k x (xs ++ (y ∷ [])) → Snoc k x xs y
+  nth_snoc [] {y = y} (there {k = k} n) = elim n [ ]
   nth_snoc [] here = last refl refl
   nth_snoc (z ∷ xs) here = front here
   nth_snoc (z ∷ xs) (there n) = snoc_more z (nth_snoc xs n)
 
   pub nth_take : {k : ℕ} {x : A} (n : ℕ) (xs : List A) → Nth k x (take n xs) → Nth k x xs
+  nth_take {k = k} zero xs x'' = elim x'' [ ]
+  nth_take {k = k} (suc n) [] x4 = elim x4 [ ]
   nth_take (suc n) (x ∷ xs) here = here
   nth_take (suc n) (x ∷ xs) (there h) = there (nth_take n xs h)
 

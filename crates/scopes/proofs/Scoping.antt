@@ -13,7 +13,7 @@ use Rattle.penne.specs.Pruning.{Prunings, no_prunings, fate, fate_by}
 use Rattle.scopes.specs.declared.scope.Scope.{Scope}
 use Rattle.scopes.specs.declared.scope.Local.{Local}
 use Rattle.scopes.specs.declared.scope.Found.TheVariants.{At, Nothing}
-use Rattle.scopes.specs.Table.{rows, words, local_name, local_place, local_from, local_id, local_fate, heads, cell, Nth, here, there, Stands, entry, head_of, Heads, unnoted, unresolved, Holds, Keeps}
+use Rattle.scopes.specs.Table.{rows, words, local_name, local_place, local_from, local_id, local_fate, heads, cell, Nth, Stands, entry, head_of, Heads, unnoted, unresolved, Holds, Keeps}
 use Rattle.scopes.specs.Calls.{Begins, Opens, Closes, Declares, Finds, nothing, found, Searches, LocalAt, Enters, Leads, Vacates}
 use Rattle.scopes.proofs.Lists.{nth_low, nth_last, nth_is, take_more}
 use Rattle.scopes.proofs.Words.{Puts, puts}

@@ -5,7 +5,7 @@ use memory::layout::{HEADS, LOCAL_FATE, LOCAL_FROM, LOCAL_ID, LOCAL_NAME, LOCAL_
 use memory::words::{set_word, word};
 
 // How many entries there are, and where the last layer begins.
-#[derive(Drop)]
+#[derive(Clone, Copy)]
 pub struct Scope {
     pub count: usize,
     pub layer: usize,
@@ -19,7 +19,7 @@ pub enum Found {
 }
 
 // An identifier that is declared: its name, its place, where it stands in the tree, its id.
-#[derive(Drop)]
+#[derive(Clone, Copy)]
 pub struct Local {
     pub name: u32,
     pub place: u32,

@@ -10,7 +10,7 @@ use lib.ListN.{length, take, drop, length-drop}
 use lib.Seq.{length-take-le}
 use borrow.Author.Tests.{eq-eqb}
 use borrow.Rule.Slice.PartMut.{put_mid}
-use Rattle.penne.specs.Reader.{Counts, below}
+use Rattle.penne.specs.Reader.{below}
 use Rattle.penne.specs.Tree.{Spot, Ident, Decl}
 use Rattle.penne.specs.Find.{first, first_named, keep}
 use Rattle.penne.specs.Containers.{Container, Containment, identifier_of, constants, structures, id_of}

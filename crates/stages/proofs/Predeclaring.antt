@@ -11,8 +11,8 @@ use lib.ListN.{length, get_or, drop, length-drop}
 use lib.Seq.{get_or-take, length-take-le}
 use borrow.Author.Tests.{leb-true}
 use borrow.Rule.Slice.PartMut.{put_mid, same_len_mid}
-use Rattle.penne.specs.Reader.{Counts, Cur, Got, got, refused, ◌>>=◌, ret, below, many, plus, fits, counted, nothing, a_container, a_function}
-use Rattle.penne.specs.Tree.{Spot, Ident, Decl, function}
+use Rattle.penne.specs.Reader.{Counts, Cur, Got, got, refused, ret, below, many, plus, fits, nothing, a_container, a_function}
+use Rattle.penne.specs.Tree.{Spot, Ident, Decl}
 use Rattle.penne.specs.Read.{read_decl, decl_counts, decl_kinds, k_bad_decl}
 use Rattle.penne.specs.Find.{resolved}
 use Rattle.penne.specs.State as S
@@ -29,7 +29,7 @@ use Rattle.tree.specs.declared.script.Layout.{Layout}
 use Rattle.fields.specs.Answers.{cursor, counts_of, ident_of, forget, passed_of, Gives, Passes}
 use Rattle.tree.specs.Script.{LaidOut}
 use Rattle.fields.proofs.Back.{many_case}
-use Rattle.containers.specs.Table.{at, id_at, kind_of, Holds}
+use Rattle.containers.specs.Table.{id_at, kind_of, Holds}
 use Rattle.containers.specs.Calls.{Says, New, Pushes}
 use Rattle.containers.specs.Functions.{HoldsFunctions, PushesFunction}
 use Rattle.containers.proofs.Parts.{put_part, put_before}

@@ -4,7 +4,7 @@ use mathlib.Core.Path.{◌≡◌, refl, sym, ap, subst, ◌∙◌}
 use mathlib.Core.List.{List, [], ◌∷◌, ◌++◌, append_assoc, append-nil, flat_map}
 use native.Mathlib.Omega.{arith}
 use lib.ListN.{length}
-use Rattle.penne.specs.Reader.{Counts, Cur, got, many, ret, nothing}
+use Rattle.penne.specs.Reader.{Cur, got, many, ret, nothing}
 use Rattle.penne.specs.Tree.{Spot, Decl}
 use Rattle.penne.specs.Read.{read_decl}
 use Rattle.penne.specs.Write.{num_b}

@@ -1,8 +1,7 @@
 -- Was the name of a declaration declared before it?
 use Rattle.std.specs.Prelude.{ℕ, ◌≤◌, ◌≡◌, Bool, List, length, take}
 use Rattle.std.proofs.Math.Option.{Option, none, some}
-use Rattle.penne.specs.Tree.{Spot, Ident, constant, function, structure}
-use Rattle.penne.specs.Read.{place}
+use Rattle.penne.specs.Tree.{Spot, Ident}
 use Rattle.penne.specs.Find.{first_named}
 use Rattle.penne.specs.Scopes.{Analyzer}
 use Rattle.fields.specs.declared.field.Identifier.{Identifier}

@@ -1,14 +1,13 @@
 -- What stands before a declaration's parts, and how many rows a declaration takes.
 use Rattle.std.specs.Prelude.{ℕ, ◌<◌, ◌≡◌, List, get_or}
 use Rattle.penne.specs.Reader.{Counts, num, below}
-use Rattle.penne.specs.Tree.{Spot, Ident, Poison, Decl, constant, function, function_head, structure, import, bad_decl}
+use Rattle.penne.specs.Tree.{Spot, Ident, Decl, constant, function, function_head, structure, import, bad_decl}
 use Rattle.penne.specs.Read.{decl_of, decl_kinds, k_bad_decl}
 use Rattle.fields.specs.declared.number.Read.{Read}
 use Rattle.fields.specs.declared.number.Read.TheVariants.{Number}
 use Rattle.fields.specs.declared.field.Identified.TheVariants as I
 use Rattle.fields.specs.Answers.{cursor, ident_of, Gives, Skips, Identifies, two_places}
-use Rattle.containers.specs.Table.{at}
-use Rattle.walk.specs.Walking.{Is, Leads}
+use Rattle.walk.specs.Walking.{Leads}
 use Rattle.stages.specs.declared.heads.Start.{Start}
 use Rattle.stages.specs.declared.heads.Head.{Head}
 use Rattle.stages.specs.declared.heads.Head.TheVariants as H

@@ -2,7 +2,7 @@
 use Rattle.std.specs.Prelude.{ℕ, ◌+◌, ◌≤◌, ◌<◌, ◌≡◌, Bool, true, false, eqb, length, get_or, take}
 use mathlib.Core.List.{List, [], ◌∷◌, flat_map}
 use Rattle.std.proofs.Math.Option.{Option, none, some}
-use Rattle.penne.specs.Reader.{Counts, Cur, got}
+use Rattle.penne.specs.Reader.{Cur, got}
 use Rattle.penne.specs.Tree.{Spot, Ident, Decl, constant, function, function_head, structure, import, bad_decl}
 use Rattle.penne.specs.Read.{read_decl}
 use Rattle.penne.specs.Write.{num_b, bytes_b, list_b}

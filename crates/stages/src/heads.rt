@@ -5,7 +5,7 @@ use fields::field::{Identified, Identifier, read_identifier, two_places};
 use fields::number::{Read, below, number};
 
 // What comes before a declaration's parts: flags, where the places behind them begin, the identifier and where it begins, where the parts begin.
-#[derive(Drop)]
+#[derive(Clone, Copy)]
 pub struct Start {
     pub flags: u32,
     pub places: usize,

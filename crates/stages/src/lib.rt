@@ -1,4 +1,6 @@
 // What the second pass does before and behind its walk: it reads the heads of declarations alone.
+#![tactic(auto)]
+
 pub mod heads; // what stands before a declaration's parts
 pub mod before; // was a name declared before
 pub mod predeclare; // what is declared before anything is looked at

@@ -12,11 +12,10 @@ use Rattle.penne.specs.Scopes.{Analyzer}
 use Rattle.penne.specs.Variables.{analyze_stm}
 use Rattle.penne.proofs.IdsPass.{grown_stm}
 use Rattle.penne.proofs.Booleans.{and-true as and_yes}
-use Rattle.label_references.specs.Marked.{marked, rest}
+use Rattle.label_references.specs.Marked.{marked}
 use Rattle.containers.proofs.Lists.{and_true}
 use Rattle.walk.specs.Walking.{Rest, Ground, Good, Is}
 use Rattle.walk.proofs.Leading.{Listed}
-use Rattle.penne.specs.Reader.{◌>>=◌, ret}
 use Rattle.walk.specs.declared.state.Walk.{Walk}
 use Rattle.walk.proofs.Writing.{counted}
 use Rattle.statement_parts.specs.Stating.{is_free, fits, leaving, stm_walk, behind}

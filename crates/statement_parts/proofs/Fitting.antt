@@ -50,7 +50,7 @@ pub record Split (P : ℕ → Ident Spot → Type 0) (k : ℕ) (xs ys : List (Id
 
 pub split : {P : ℕ → Ident Spot → Type 0} {k n : ℕ} (xs ys : List (Ident Spot)) → Along P k (xs ++ ys) n → Split P k xs ys n
 split {k = k} [] ys a = record { middle = k; left = stop; right = a }
-split (x ∷ xs) ys (step p a) = let s = split xs ys a in record { middle = s.middle; left = step p s.left; right = s.right }
+split {k = k} (x ∷ xs) ys (step p a) = let s = split {k = k + 1} xs ys a in record { middle = s.middle; left = step p s.left; right = s.right }
 
 -- WHAT THE SEARCH FINDS
 

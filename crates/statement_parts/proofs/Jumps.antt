@@ -8,10 +8,10 @@ use lib.Dec.{leb, eqb}
 use lib.ListN.{length, get_or}
 use borrow.Author.Tests.{le-leb, lt-leb, leb-true, eqb-true}
 use borrow.Rule.Slice.PartMut.{put_mid}
-use Rattle.penne.specs.Reader.{Counts, ◌>>=◌, ret, num}
+use Rattle.penne.specs.Reader.{num}
 use Rattle.penne.specs.Find.{resolved}
 use Rattle.penne.specs.Tree.{Spot, Ident, poison, stmt, Stm, goto, label, bad_stmt}
-use Rattle.penne.specs.Read.{place, poison_fields, read_jump}
+use Rattle.penne.specs.Read.{poison_fields, read_jump}
 use Rattle.penne.specs.Write.{num_b, place_b, poison_b, stm_b}
 use Rattle.penne.specs.State as S
 use Rattle.penne.specs.Scopes.{with_prunings, prepare_to_prune_at_goto, prune_at_label}

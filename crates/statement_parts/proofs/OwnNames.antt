@@ -19,7 +19,6 @@ use Rattle.answer.specs.declared.wrote.Wrote.{Wrote}
 use Rattle.answer.specs.Out.{Put}
 use Rattle.answer.specs.Parts.{identifier_b}
 use Rattle.answer.proofs.Fields.{identifier_bytes}
-use Rattle.label_references.specs.Marked.{rest}
 use Rattle.containers.proofs.Lists.{and_true}
 use Rattle.walk.specs.declared.state.Walk.{Walk}
 use Rattle.walk.specs.declared.fault.Fault.{Fault}

@@ -1,4 +1,6 @@
 // What statements and bodies are made of that holds no statement: gotos and labels, a declared name, a body's own name. What the label pass decided of a goto or label is found by its number.
+#![tactic(auto)]
+
 ghost use Rattle.std.specs.Prelude.{ℕ, List, ◌++◌};
 ghost use Rattle.penne.specs.Write.{num_b, ident_b};
 ghost use Rattle.answer.specs.Out.{Put};

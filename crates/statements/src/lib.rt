@@ -1,4 +1,6 @@
 // analyze of Statement, Block and FunctionBody. What the label pass decided of a statement is found by its number.
+#![tactic(auto)]
+
 ghost use Rattle.std.specs.Prelude.{ℕ, List, get_or};
 ghost use Rattle.penne.specs.Reader.{listed};
 ghost use Rattle.penne.specs.Read.{maybe, stmt_kinds, k_bad_stmt, stmt_of, read_stmt, read_declaration, read_assignment, read_method_call, read_if, else_of, read_block, read_body};
@@ -19,7 +21,7 @@ use walk::items::{copy_poison, write_fault};
 use walk::names::{Used, closed, opened, use_called};
 use walk::state::Walk;
 
-#[cycle(block_branches_else_branch_statement_of_statements_stmt)]
+#[cycle(statements)]
 pub fn stmt(
     tree: &[u8],
     answer: &mut [u8],
@@ -56,7 +58,7 @@ pub fn stmt(
 }
 
 // What follows a statement's kind; `n` is the statement's number.
-#[cycle(block_branches_else_branch_statement_of_statements_stmt)]
+#[cycle(statements)]
 fn statement_of(
     tree: &[u8],
     answer: &mut [u8],
@@ -173,7 +175,7 @@ fn loop_back(tree: &[u8], answer: &mut [u8], st: Walk) -> Walk
 }
 
 // An If.
-#[cycle(block_branches_else_branch_statement_of_statements_stmt)]
+#[cycle(statements)]
 fn branches(
     tree: &[u8],
     answer: &mut [u8],
@@ -201,7 +203,7 @@ fn branches(
     else_branch(tree, answer, list, work, q, left)
 }
 
-#[cycle(block_branches_else_branch_statement_of_statements_stmt)]
+#[cycle(statements)]
 fn else_branch(
     tree: &[u8],
     answer: &mut [u8],
@@ -230,7 +232,7 @@ fn else_branch(
     stmt(tree, answer, list, work, st.wrote(x).moved(b), left)
 }
 
-#[cycle(block_branches_else_branch_statement_of_statements_stmt)]
+#[cycle(statements)]
 fn block(
     tree: &[u8],
     answer: &mut [u8],
@@ -253,7 +255,7 @@ fn block(
 }
 
 // A list of statements.
-#[cycle(block_branches_else_branch_statement_of_statements_stmt)]
+#[cycle(statements)]
 pub fn statements(
     tree: &[u8],
     answer: &mut [u8],

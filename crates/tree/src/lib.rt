@@ -1,4 +1,6 @@
 // The script tree, read and not kept: where each part ends, or the refusal that document 01's table gives.
+#![tactic(auto)]
+
 pub mod statement; // statements and bodies
 pub mod declaration; // declarations
 pub mod ends; // where declarations end, noted once
@@ -12,7 +14,7 @@ ghost use Rattle.tree.specs.Script.{verdict_of, refusal, unlaid_by, IncomingLayo
 use fields::number::Read;
 use script::{Laid, answered_depths, incoming_depths, lay_out, not_laid};
 
-#[derive(Drop)]
+#[derive(Clone, Copy)]
 pub enum Verdict {
     Passes,
     Refused(u32, usize),

@@ -13,7 +13,7 @@ use fields::number::{Read, below, number};
 use name_table::name_table;
 
 // Where the parts of a tree stand: how many names, how many declarations, the first declaration, the first depth.
-#[derive(Drop)]
+#[derive(Clone, Copy)]
 pub struct Layout {
     pub names: u32,
     pub count: u32,

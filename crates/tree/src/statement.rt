@@ -12,7 +12,7 @@ use fields::poison::poison;
 use nodes::node::{expression, expressions, option_expression, reference};
 use nodes::value_type::carried;
 
-#[cycle(block_branches_else_branch_statement_of_statements_stmt)]
+#[cycle(statement)]
 pub fn stmt(tree: &[u8], names: u32, counts: Counts, at: usize, left: u32) -> Passed
     ensures { Passes (read_stmt left) tree.now names counts at result }
 {
@@ -31,7 +31,7 @@ pub fn stmt(tree: &[u8], names: u32, counts: Counts, at: usize, left: u32) -> Pa
 }
 
 // What follows a statement's kind.
-#[cycle(block_branches_else_branch_statement_of_statements_stmt)]
+#[cycle(statement)]
 fn statement_of(tree: &[u8], names: u32, counts: Counts, at: usize, left: u32, kind: u32) -> Passed
     ensures { Passes (stmt_of left (read_stmt left) (get_or stmt_kinds kind k_bad_stmt)) tree.now names counts at result }
 {
@@ -106,7 +106,7 @@ fn jump(tree: &[u8], names: u32, at: usize) -> Read
 }
 
 // An If.
-#[cycle(block_branches_else_branch_statement_of_statements_stmt)]
+#[cycle(statement)]
 fn branches(tree: &[u8], names: u32, counts: Counts, at: usize, left: u32) -> Passed
     ensures { Passes (read_if left (read_stmt left)) tree.now names counts at result }
 {
@@ -133,7 +133,7 @@ fn branches(tree: &[u8], names: u32, counts: Counts, at: usize, left: u32) -> Pa
     else_branch(tree, names, more, e, left)
 }
 
-#[cycle(block_branches_else_branch_statement_of_statements_stmt)]
+#[cycle(statement)]
 fn else_branch(tree: &[u8], names: u32, counts: Counts, at: usize, left: u32) -> Passed
     ensures { Passes (else_of (read_stmt left)) tree.now names counts at result }
 {
@@ -151,7 +151,7 @@ fn else_branch(tree: &[u8], names: u32, counts: Counts, at: usize, left: u32) ->
     stmt(tree, names, counts, b, left)
 }
 
-#[cycle(block_branches_else_branch_statement_of_statements_stmt)]
+#[cycle(statement)]
 fn block(tree: &[u8], names: u32, counts: Counts, at: usize, left: u32) -> Passed
     ensures { Passes (read_block (read_stmt left)) tree.now names counts at result }
 {
@@ -163,7 +163,7 @@ fn block(tree: &[u8], names: u32, counts: Counts, at: usize, left: u32) -> Passe
 }
 
 // A list of statements.
-#[cycle(block_branches_else_branch_statement_of_statements_stmt)]
+#[cycle(statement)]
 pub fn statements(tree: &[u8], names: u32, counts: Counts, at: usize, left: u32) -> Passed
     ensures { Passes (listed (read_stmt left)) tree.now names counts at result }
 {

@@ -1,4 +1,6 @@
 // analyze_type. A type is written whole, or nothing of it is, and its poison is told.
+#![tactic(auto)]
+
 ghost use Rattle.std.specs.Prelude.{ℕ, get_or, Bool, true, false, List};
 ghost use Rattle.penne.specs.Tree.{Spot, Ty};
 ghost use Rattle.penne.specs.Reader.{Reader, ret, num};
@@ -25,7 +27,7 @@ pub enum Typed {
     Bad(Walk, Fault),
 }
 
-#[cycle(array_array_with_named_length_element_of_type_of_value_type)]
+#[cycle(types)]
 pub fn value_type(tree: &[u8], answer: &mut [u8], work: &mut [u32], st: Walk, left: u32) -> Typed
     ensures { (own : Bool) (l : List ℕ) → Tries tree.now (read_ty left own) analyze_type ty_b st answer.old l work.old (walk_of result) (fault_of result) answer.new l work.new }
 {
@@ -41,7 +43,7 @@ pub fn value_type(tree: &[u8], answer: &mut [u8], work: &mut [u32], st: Walk, le
 }
 
 // What follows a type's kind.
-#[cycle(array_array_with_named_length_element_of_type_of_value_type)]
+#[cycle(types)]
 fn type_of(
     tree: &[u8],
     answer: &mut [u8],
@@ -74,7 +76,7 @@ fn plain(answer: &mut [u8], st: Walk, kind: u32) -> Walk
 }
 
 // The kinds that hold one type, and then perhaps something else: the kind and the type.
-#[cycle(array_array_with_named_length_element_of_type_of_value_type)]
+#[cycle(types)]
 fn element_of(
     tree: &[u8],
     answer: &mut [u8],
@@ -94,7 +96,7 @@ fn element_of(
     }
 }
 
-#[cycle(array_array_with_named_length_element_of_type_of_value_type)]
+#[cycle(types)]
 fn array(tree: &[u8], answer: &mut [u8], work: &mut [u32], st: Walk, left: u32) -> Typed
     ensures { (own : Bool) (l : List ℕ) → Tries tree.now (ty_of (read_ty left own) (read_ty left false) 14 k_array) analyze_type ty_b st answer.old l work.old (walk_of result) (fault_of result) answer.new l work.new }
 {
@@ -129,7 +131,7 @@ fn past_length(tree: &[u8], st: Walk) -> Walk
 }
 
 // An element before its named length.
-#[cycle(array_array_with_named_length_element_of_type_of_value_type)]
+#[cycle(types)]
 fn array_with_named_length(
     tree: &[u8],
     answer: &mut [u8],

@@ -1,3 +1,5 @@
 // The second pass: variable_references.rs. It reads the tree again and writes the answer as it goes.
+#![tactic(auto)]
+
 pub mod declaration; // declarations
 pub mod script; // the whole tree

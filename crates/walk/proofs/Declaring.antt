@@ -23,7 +23,7 @@ use Rattle.walk.specs.declared.names.Place.TheVariants as P
 use Rattle.walk.specs.declared.names.Named.TheVariants as N
 use Rattle.walk.specs.declared.names.Used.TheVariants as U
 use Rattle.answer.specs.Parts.{resolved_to}
-use Rattle.walk.specs.Walking.{Takes, here, scopes_in, Whose, nobody, somebody, Good, Is, silently, Made, made_as, made_not, walk_of, used_of, Declares, duplicate_fault}
+use Rattle.walk.specs.Walking.{Takes, here, scopes_in, Whose, nobody, somebody, Good, Is, silently, Made, made_as, made_not, walk_of, used_of, duplicate_fault}
 use Rattle.walk.specs.Calls.{PlaceOfVariable, Pushes, DeclaresBy}
 use Rattle.walk.proofs.Early.{early_declare}
 use Rattle.walk.proofs.Tables.{scopes_changed, marks_kept, lower_scopes}

@@ -8,7 +8,7 @@ use native.Mathlib.Omega.{arith}
 use lib.Dec.{eqb}
 use lib.ListN.{get_or}
 use borrow.Author.Tests.{eqb-true, eqb-false}
-use Rattle.penne.specs.Reader.{Counts, Cur, got, Reader, ◌>>=◌, ret, such, num, below}
+use Rattle.penne.specs.Reader.{Counts, Cur, got, Reader, such, num, below}
 use Rattle.penne.specs.State as S
 use Rattle.penne.specs.State.{◌>>?◌}
 use Rattle.penne.specs.Tree.{Spot, Ident, Poison, Maybe, ok, err, Ty, plain, array, array_with_named_length, arraylike, struct, word, unresolved, nameless, pointer, view}

@@ -9,7 +9,7 @@ use Rattle.penne.specs.Tree.{Spot, Ident, Poison, poison, Maybe, ok, err}
 use Rattle.penne.specs.Write.{poison_b}
 use Rattle.penne.specs.Find.{first_named, resolved}
 use Rattle.penne.specs.State.{ret}
-use Rattle.penne.specs.Containers.{structures, constants}
+use Rattle.penne.specs.Containers.{structures}
 use Rattle.penne.specs.Scopes.{Analyzer, Pass, on_containment, with_containment, undefined, use_containee, use_as, use_constant_at, use_constant, use_function_at, use_function, use_struct_at, use_struct}
 use Rattle.penne.specs.Variables.{use_called}
 use Rattle.fields.specs.declared.field.Identifier.{Identifier}

@@ -14,7 +14,7 @@ use memory::layout::{CONTAINERS, CONTAINERS_END, WORDS};
 use nodes::value_type::value_type;
 
 // Who contains: a constant or structure by its row; in a structure, the place of its member.
-#[derive(Drop)]
+#[derive(Clone, Copy)]
 pub struct Holder {
     pub row: usize,
     pub is_member: bool,
@@ -120,7 +120,7 @@ fn constant_in(work: &[u32], script: Script, row: usize) -> Found
 }
 
 // found_container, over a type all whose names are found; it "ignores Pointer and View".
-#[cycle(found_container_found_in_named_length)]
+#[cycle(edges)]
 pub fn found_container(
     tree: &[u8],
     work: &mut [u32],
@@ -148,7 +148,7 @@ pub fn found_container(
 }
 
 // The element before the length.
-#[cycle(found_container_found_in_named_length)]
+#[cycle(edges)]
 fn found_in_named_length(
     tree: &[u8],
     work: &mut [u32],

@@ -1,4 +1,6 @@
 // What every function of the second pass shares: its state, what it writes whole, and what declares and uses names.
+#![tactic(auto)]
+
 pub mod state; // `struct Analyzer` of variable_references.rs, as far as it goes by value
 pub mod fault; // poisons that the pass makes
 pub mod items; // identifiers and poisons, as they are read and written

@@ -6,7 +6,7 @@ use fields::counts::Counts;
 use scopes::scope::Scope;
 
 // What does not change once all is predeclared: how many names, constants and structures, functions there are, and which name is `main` (as many as there are names, where none is).
-#[derive(Drop)]
+#[derive(Clone, Copy)]
 pub struct Script {
     pub names: u32,
     pub main: u32,
@@ -15,7 +15,7 @@ pub struct Script {
 }
 
 // The variables in scope, the next id, and `in_constexpr_of_constant`: 1 + the constant's row, 0 for none.
-#[derive(Drop)]
+#[derive(Clone, Copy)]
 pub struct Tables {
     pub scope: Scope,
     pub next_id: u32,
@@ -23,7 +23,7 @@ pub struct Tables {
 }
 
 // Where the walk reads, how far answer and list are written, what is counted so far.
-#[derive(Drop)]
+#[derive(Clone, Copy)]
 pub struct Walk {
     pub at: usize,
     pub wrote: Wrote,

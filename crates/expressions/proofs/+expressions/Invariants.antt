@@ -1,0 +1,83 @@
+use Rattle.penne.specs.Read.{read, item_of}
+use Rattle.penne.specs.Write.{node_b}
+use Rattle.penne.specs.Tree.{expr, step}
+use Rattle.walk.specs.Walking.{onward}
+use Rattle.walk.proofs.Leading.{Going}
+use Rattle.expression_parts.specs.Expressing.{nodes}
+use Prim.Native.Nat.{◌+◌, ◌*◌}
+use Rattle.expressions.proofs.+expressions.Given as goal
+
+abbrev pub decreases-array_literal : goal.decreases-array_literal
+decreases-array_literal l = l.left * 8 + 3
+
+abbrev pub decreases-binary : goal.decreases-binary
+decreases-binary l = l.left * 8 + 3
+
+abbrev pub decreases-bit_cast : goal.decreases-bit_cast
+decreases-bit_cast l = l.left * 8 + 3
+
+abbrev pub decreases-deref : goal.decreases-deref
+decreases-deref l = l.left * 8 + 3
+
+abbrev pub decreases-element : goal.decreases-element
+decreases-element l = l.left * 8 + 1
+
+abbrev pub decreases-expression : goal.decreases-expression
+decreases-expression l = l.left * 8 + 0
+
+abbrev pub decreases-expression_of : goal.decreases-expression_of
+decreases-expression_of l = l.left * 8 + 4
+
+abbrev pub decreases-expressions : goal.decreases-expressions
+decreases-expressions l = l.left * 8 + 1
+
+abbrev pub decreases-function_call : goal.decreases-function_call
+decreases-function_call l = l.left * 8 + 3
+
+abbrev pub decreases-item : goal.decreases-item
+decreases-item l = l.left * 8 + 1
+
+abbrev pub decreases-items : goal.decreases-items
+decreases-items l = l.left * 8 + 2
+
+abbrev pub decreases-length_of_array : goal.decreases-length_of_array
+decreases-length_of_array l = l.left * 8 + 3
+
+abbrev pub decreases-parenthesized : goal.decreases-parenthesized
+decreases-parenthesized l = l.left * 8 + 3
+
+abbrev pub decreases-reference : goal.decreases-reference
+decreases-reference l = l.left * 8 + 0
+
+abbrev pub decreases-step : goal.decreases-step
+decreases-step l = l.left * 8 + 0
+
+abbrev pub decreases-steps : goal.decreases-steps
+decreases-steps l = l.left * 8 + 1
+
+abbrev pub decreases-structural : goal.decreases-structural
+decreases-structural l = l.left * 8 + 3
+
+abbrev pub decreases-type_cast : goal.decreases-type_cast
+decreases-type_cast l = l.left * 8 + 3
+
+abbrev pub decreases-unary : goal.decreases-unary
+decreases-unary l = l.left * 8 + 3
+
+abbrev pub invariant-expressions-loop-rest : goal.invariant-expressions-loop-rest
+invariant-expressions-loop-rest l = Going l.tree (read l.left expr) (λ xs b. onward nodes node_b xs b) l.n l.initial.s l.initial.answer l.initial.list l.initial.work l.rest l.s l.answer l.list l.work
+
+abbrev pub decreases-expressions-loop-rest : goal.decreases-expressions-loop-rest
+decreases-expressions-loop-rest l = l.rest
+
+abbrev pub invariant-items-loop-rest : goal.invariant-items-loop-rest
+invariant-items-loop-rest l = Going l.tree (item_of (read l.left)) (λ xs b. onward nodes node_b xs b) l.n l.initial.s l.initial.answer l.initial.list l.initial.work l.rest l.s l.answer l.list l.work
+
+abbrev pub decreases-items-loop-rest : goal.decreases-items-loop-rest
+decreases-items-loop-rest l = l.rest
+
+abbrev pub invariant-steps-loop-rest : goal.invariant-steps-loop-rest
+invariant-steps-loop-rest l = Going l.tree (read l.left step) (λ xs b. onward nodes node_b xs b) l.n l.initial.s l.initial.answer l.initial.list l.initial.work l.rest l.s l.answer l.list l.work
+
+abbrev pub decreases-steps-loop-rest : goal.decreases-steps-loop-rest
+decreases-steps-loop-rest l = l.rest

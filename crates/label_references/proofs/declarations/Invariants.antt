@@ -1,0 +1,11 @@
+use mathlib.Core.Path.{◌≡◌}
+use lib.ListN.{length}
+use Rattle.tree.specs.Ends.{Known}
+use Rattle.label_references.proofs.Deciding.{Deciding}
+use Rattle.label_references.proofs.declarations.Given as goal
+
+abbrev pub invariant-loop-rest : goal.invariant-loop-rest
+invariant-loop-rest l = (length l.work ≡ length l.initial.work) × (Known l.tree l.names l.ends → Deciding l.tree l.names l.initial.rest l.initial.at l.initial.so_far l.initial.next_id l.initial.work l.rest l.at l.so_far l.next_id l.work)
+
+abbrev pub decreases-loop-rest : goal.decreases-loop-rest
+decreases-loop-rest l = l.rest

@@ -1,0 +1,5 @@
+use native.Mathlib.Omega.{arith}
+use Rattle.walk.proofs.edges.constant_in.Goals as goal
+
+pub returns-then-work-lt-WORDS : goal.returns-then-work-lt-WORDS
+returns-then-work-lt-WORDS c = record { finds = λ h. absurd (omega (arith, h, c.if-work-lt-WORDS.true)) }
