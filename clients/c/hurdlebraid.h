@@ -1,4 +1,4 @@
-/* The scoper of Penne scripts, for C. Link libhurdlebraid.a, which `rt staticlib hurdlebraid` writes, on x86-64 Linux.
+/* The scoper of Penne scripts, for C. Link libhurdlebraid.a, which `rt lib` in crates/hurdlebraid writes, on x86-64 Linux.
  *
  * Each pointer comes with the number of elements behind it, and is not NULL, not even for 0 elements. What a call
  * writes to overlaps nothing else that it is lent. The calls keep nothing, allocate nothing and need no more than

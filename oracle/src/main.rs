@@ -171,7 +171,7 @@ fn through_library(asked: Asked) -> i32 {
 
 #[cfg(not(feature = "library"))]
 fn through_library(_: Asked) -> i32 {
-    eprintln!("built without the library. At the repository's root: rt staticlib hurdlebraid");
+    eprintln!("built without the library. In crates/hurdlebraid: rt lib");
     eprintln!("Then here: cargo run --release --features library -- compare");
     eprintln!("       or: cargo run --profile perf --features library -- perf");
     2
