@@ -89,7 +89,7 @@ fn random_tree(dice: &mut Dice, bytes: usize) -> Bytes {
     }
 }
 
-/// One of everything that 01 names, and trees near each limit of row 8.
+/// One of everything that docs/FORM.md names, and trees near each limit of row 8.
 fn fixed() -> Vec<Bytes> {
     let mut all: Vec<Bytes> =
         sheet::NUMBER_EDGES.iter().map(|(bytes, _, _)| sheet::hex(bytes)).collect();

@@ -1,6 +1,6 @@
 //! An independent model of what a function's body does, made from the tree as
 //! it came in: one line of acts in text order, each use resolved, each goto
-//! tied to its label. Written from 01, not from the original's text; pruning
+//! tied to its label. Written from the requirements (docs/FORM.md), not from the original's text; pruning
 //! (`pruning.rs`) and walks (`walks.rs`) are both told over it.
 
 use crate::read::Tree;

@@ -61,7 +61,7 @@ fn random_tree(dice: &mut Dice, bytes: std::ops::Range<usize>, nodes: usize) -> 
     }
 }
 
-/// One of everything that 01 names, and both sides of every limit.
+/// One of everything that docs/FORM.md names, and both sides of every limit.
 fn fixed() -> Vec<Bytes> {
     let mut all = sheet::proved();
     all.extend(sheet::NUMBER_EDGES.iter().map(|(bytes, _, _)| sheet::hex(bytes)));

@@ -363,7 +363,7 @@ fn show(tree: &[u8], question: Question, said: &str) {
     println!("{said} | {question:?} | {spelled}");
 }
 
-/// One of everything that 01 names, both sides of every limit, and what is
+/// One of everything that docs/FORM.md names, both sides of every limit, and what is
 /// slow.
 fn named() -> Vec<Bytes> {
     let edges = sheet::NUMBER_EDGES.iter().map(|(bytes, _, _)| sheet::hex(bytes));

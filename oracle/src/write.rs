@@ -50,7 +50,7 @@ pub fn number(bytes: &mut Vec<u8>, mut value: u32) {
     bytes.push(value as u8);
 }
 
-/// 01's number of a poison, with its names and places in the order of its fields.
+/// The form's number of a poison, with its names and places in the order of its fields.
 pub fn poison_fields(poison: &Poison) -> (u32, Vec<&String>, Vec<&Location>) {
     let error = match poison {
         Poison::Poisoned => return (0, vec![], vec![]),

@@ -1,4 +1,4 @@
-# Random trees of document 01's form, small ones. A seed gives a tree.
+# Random trees of the form of docs/FORM.md, small ones. A seed gives a tree.
 import random
 from trees import *
 

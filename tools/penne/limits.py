@@ -1,4 +1,4 @@
-# Refusals 3 to 10 at their edges, number and place by hand from document 01's words. tables.py writes them to crates/vectors/proofs/Limits.antt.
+# Refusals 3 to 10 at their edges, number and place by hand from the words of docs/FORM.md. tables.py writes them to crates/vectors/proofs/Limits.antt.
 from trees import *
 
 NAMES = names('a')
@@ -49,7 +49,7 @@ parts += [('readStmt 63', LOOP, 'entries', 1024, 0), ('readDecl', cat(4, 0, 1), 
 def counts(what, n): return 'record { %s }' % '; '.join('%s = %d' % (w, n if w == what else 0) for w in ('containers', 'functions', 'entries', 'statements'))
 
 def text():
-    out = """-- Refusals 3 to 10 at their edges, numbers and places by hand from 01. Written by tools/penne/tables.py.
+    out = """-- Refusals 3 to 10 at their edges, numbers and places by hand from docs/FORM.md. Written by tools/penne/tables.py.
 use Prim.Native.Nat.{ℕ}
 use mathlib.Core.Bool.{true, false}
 use mathlib.Core.Path.{_≡_, refl}

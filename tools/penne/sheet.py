@@ -1,4 +1,4 @@
-# P1 to P8 of document 01, inputs and answers built by hand from its words. tables.py holds the answers against the Rust's and writes crates/penne/proofs/Sheet.antt.
+# P1 to P8 of docs/FORM.md, inputs and answers built by hand from its words. tables.py holds the answers against the Rust's and writes crates/penne/proofs/Sheet.antt.
 from trees import *
 
 def at(b, i):                                  # where the identifier i stands in b, the only one of its bytes
@@ -11,8 +11,8 @@ def row(says, given, answered, skips=()):
 
 row('bytes 00 00 answer 00 00', bytes([0, 0]), bytes([0, 0]))
 
-# 01's own bytes. The answer has 72 bytes too: flag 4 and authority 0 at main, label id 1 at goto and label, ids 2 for x and 3 for the return value,
-# and 01's two bases. The label's kind 13 has the names x and l, and the places of the use, of x, of the goto and of the label: 6, 3, 2, 4.
+# The page's own bytes. The answer has 72 bytes too: flag 4 and authority 0 at main, label id 1 at goto and label, ids 2 for x and 3 for the return value,
+# and the page's two bases. The label's kind 13 has the names x and l, and the places of the use, of x, of the goto and of the label: 6, 3, 2, 4.
 SHEET = '03046D61696E0178016C 01010000000001000100 00040402020000020003 00000103000105020400 01040105090000060600 01060000000005050001 05000000000007000000 0000'
 BASES = '01 0D 01 02 06 03 02 04', '01 00'
 row('the bench sheet; its bases answer %s and %s' % BASES, bytes.fromhex(SHEET),
@@ -72,7 +72,7 @@ row('label l in both block branches: ids 1 then 2',
     tree(['f', 'l'], [function(ident(0, 2, 1, 0), ok(body([branches(ident(1, 5, 1, 1), ident(1, 8, 2, 1))], ident(0, 9, 2, 0))), ok(VOID))], [0]))
 
 def text():
-    out = '''-- P1 to P8 of 01, one table under one claim; inputs and answers are built by hand from 01's words in tools/penne/sheet.py. Written by tools/penne/tables.py.
+    out = '''-- P1 to P8 (docs/FORM.md), one table under one claim; inputs and answers are built by hand from that page's words in tools/penne/sheet.py. Written by tools/penne/tables.py.
 use Prim.Native.Nat.{ℕ}
 use mathlib.Core.Path.{_≡_, refl}
 use mathlib.Core.List.{List, [], _∷_, map}

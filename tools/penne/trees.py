@@ -1,4 +1,4 @@
-# Document 01's tree form: building trees by hand, counting what is in one, and lists of numbers in antt.
+# The form of docs/FORM.md: building trees by hand, counting what is in one, and lists of numbers in antt.
 from collections import Counter
 
 # BUILDING: numbers below 2^32 in shortest form; every part is bytes, and a number stands for its bytes

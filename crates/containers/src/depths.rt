@@ -173,7 +173,7 @@ fn or_poisoned(table: &mut [u32], row: usize)
     set_word(table, CONTAINER_DEPTH + row, 1);
 }
 
-// A depth by 01's numbers: 1 poisoned, 2 + d.
+// A depth as the tree numbers it: 1 poisoned, 2 + d.
 pub fn container_depth(table: &[u32], row: usize) -> u32
     ensures { TellsDepth row table.now result }
 {

@@ -80,7 +80,7 @@ abbrev pub unidentified_by : Read → Identified
 unidentified_by (Number v next) = Not 0 next
 unidentified_by (Refused n p) = Not n p
 
--- 01's "2p", and "op, 2p"
+-- what the form writes "2p", and "op, 2p"
 unfoldable pub two_places : Reader (Spot × Spot)
 two_places = place >>= λ p. place >>= λ q. ret (p, q)
 

@@ -1,4 +1,4 @@
-// The fields that a script tree is made of, read and not kept: where each ends, or the refusal that document 01's table gives.
+// The fields that a script tree is made of, read and not kept: where each ends, or the refusal that the table in docs/FORM.md gives.
 #![tactic(auto)]
 
 pub mod number; // numbers, and numbers below a limit

@@ -1,4 +1,4 @@
-// Types and expressions, which hold parts of their own kind, read and not kept: where each ends, or the refusal that document 01's table gives.
+// Types and expressions, which hold parts of their own kind, read and not kept: where each ends, or the refusal that the table in docs/FORM.md gives.
 #![tactic(auto)]
 
 pub mod value_type; // types

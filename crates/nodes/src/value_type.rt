@@ -90,7 +90,7 @@ pub fn maybe_type(tree: &[u8], names: u32, own: bool, at: usize, left: u32) -> R
     poison(tree, names, a)
 }
 
-// 01's "carried": option maybe type.
+// What the form calls "carried": option maybe type.
 pub fn carried(tree: &[u8], names: u32, at: usize, left: u32) -> Read
     ensures { Ends (option (maybe (read_ty left false))) tree.now names at result }
 {

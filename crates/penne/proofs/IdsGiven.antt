@@ -33,7 +33,7 @@ module _ {P : Type 0} where
         of_labels = raise (omega (arith, next_label_decls ds start)) (labels_turn (V'.analyze_decl names) (labels_decl names) r.0 r.1 (labels_turn V'.predeclare labels_own (L.label_references ds) Q.begin l.given));
       }
 
--- 01: "No id given out exceeds the input's length in bytes."
+-- "No id given out exceeds the input's length in bytes."
 pub ids_few : (s : List ℕ) {t : Tree Spot} {c : Cur} → decode incoming s ≡ got t c → Given (length s) (length s) (answered_tree t).decls
 unfolding answered_tree V'.postanalyzed
 ids_few s {t} e =

@@ -110,7 +110,7 @@ pub record Promised (names : List (List ℕ)) (ds : List (Decl Spot)) (k f : ℕ
   pub listed : NamesSkipped (body_acts body (names_at (label_references ds) ps)) (offsets (get_or (parts_of names (label_references ds)) k []))
   pub agrees : Agreement names (label_references ds) k ps body
 
--- "In functions meeting demand 3's premise", as they came in
+-- in functions meeting demand 3's premise, as they came in
 pub promised : (names : List (List ℕ)) (ds : List (Decl Spot)) (k f : ℕ) (p q : Spot) (i : Ident Spot) (ps : List (Param Spot)) (b : Body Spot) (t : Maybe Spot (Ty Spot))
     → get_elem? ds k ≡ some (function f p q i ps (ok b) t)
     → is_in i.name (flat_map function_names (take k ds)) ≡ false

@@ -90,7 +90,7 @@ unfolding outcome
 same_outcome m n w _ _ refuses = record { refusal = refl; place = refl; tree_length = refl; records = refl; list = refl }
 same_outcome m n w _ _ (answers e) = record { refusal = refl; place = refl; tree_length = e; records = refl; list = refl }
 
--- 01: "Two trees that differ only in place numbers of equal byte count get the same refusals, lengths, ids, depths and list."
+-- The place rule: "Two trees that differ only in place numbers of equal byte count get the same refusals, lengths, ids, depths and list."
 pub place_rule : PlaceRule
 unfolding scoped
 place_rule s t h m n w =

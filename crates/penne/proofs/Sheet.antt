@@ -1,4 +1,4 @@
--- P1 to P8 of 01, one table under one claim; inputs and answers are built by hand from 01's words in tools/penne/sheet.py. Written by tools/penne/tables.py.
+-- P1 to P8 (docs/FORM.md), one table under one claim; inputs and answers are built by hand from that page's words in tools/penne/sheet.py. Written by tools/penne/tables.py.
 use Prim.Native.Nat.{ℕ}
 use mathlib.Core.Path.{◌≡◌, refl}
 use mathlib.Core.List.{List, [], ◌∷◌, map}

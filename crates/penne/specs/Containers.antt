@@ -5,7 +5,7 @@ use Rattle.penne.specs.Find.{first, keep, is_in, union, minus}
 use Rattle.penne.specs.State.{State, ret, ◌>>?◌}
 use Rattle.penne.specs.Tree.{Ident, Poison, poison, Maybe, ok, err, Ty, plain, array, array_with_named_length, arraylike, struct, word, unresolved, nameless, pointer, view}
 
--- struct Container; its depth by 01's numbers: 0 none, 1 poisoned, 2 + d
+-- struct Container; its depth as the tree numbers it: 0 none, 1 poisoned, 2 + d
 pub record Container (P : Type 0) : Type 0 where
   pub identifier : Ident P
   pub contained_ids : List ℕ

@@ -1,5 +1,5 @@
 -- Ids: how many each pass can take for a part of the tree, and which ids of an answered tree the passes gave out.
--- 01: "Label ids and variable ids count separately from 1. No id given out exceeds the input's length in bytes."
+-- "Label ids and variable ids count separately from 1. No id given out exceeds the input's length in bytes."
 use Rattle.std.specs.Prelude.{ℕ, zero, suc, ◌+◌, ◌≤◌, ◌<◌}
 use mathlib.Core.List.{List, [], ◌∷◌, ◌++◌, flat_map}
 use Rattle.std.proofs.Math.Option.{Option, none, some}

@@ -1,4 +1,4 @@
--- 01: "Two trees that differ only in place numbers of equal byte count get the same refusals, lengths, ids, depths and list."
+-- The place rule: "Two trees that differ only in place numbers of equal byte count get the same refusals, lengths, ids, depths and list."
 -- The rule speaks of all byte strings, also of those that are refused: so it is told by what the form wants at a byte, not by what was read.
 use Rattle.std.specs.Prelude.{ℕ, zero, suc, ◌+◌, true, false, ◌≡◌, List, [], ◌∷◌, ◌++◌, length, get_or, take, drop, ltb, eqb}
 use Rattle.penne.specs.Reader.{Cur, Got, got, refused, moved, num}
@@ -100,7 +100,7 @@ unfoldable pub in_times : ℕ → Want → List Want
 in_times zero w = []
 in_times (suc n) w = w ∷ times n w ∷ []
 
--- the form of 01, with no thought of what it refuses
+-- the form of docs/FORM.md, with no thought of what it refuses
 unfoldable pub move : Want → Move
 move place = passes
 move number = opens (λ _. [])

@@ -16,7 +16,7 @@ pub record Pruning (P : Type 0) : Type 0 where
   pub label : Ident P
   pub location_of_goto : P
 
--- unresolved_labels, pruned_variables and poisoned_variables of struct Analyzer; beside them 01's list: for each refused use its identifier's place and that of the identifier it resolves to
+-- unresolved_labels, pruned_variables and poisoned_variables of struct Analyzer; beside them the skip list: for each refused use its identifier's place and that of the identifier it resolves to
 pub record Prunings (P : Type 0) : Type 0 where
   pub unresolved_labels : List (UnresolvedPruning P)
   pub pruned_variables : List (Pruning P)

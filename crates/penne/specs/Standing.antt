@@ -1,4 +1,4 @@
--- 01, "The skip list": "each listed use that still stands is answered by kind 13 or Poisoned, and every other standing use of a local keeps its identifier."
+-- What the answer has to say of uses (docs/FORM.md, The skip list): "each listed use that still stands is answered by kind 13 or Poisoned, and every other standing use of a local keeps its identifier."
 -- The bases of a body are paired with those of its answer: both are laid out as outlines, and a base still stands where the two outlines have the same shape down to it.
 use Rattle.std.specs.Prelude.{ℕ, ◌+◌, Bool, true, false, ◌≡◌, take}
 use mathlib.Core.List.{List, [], flat_map}

@@ -1,4 +1,4 @@
--- 01, "The skip list", and demand 3: what a walk is, and what the list has to say of it. What comes before DEMAND 3 knows nothing of pruning.
+-- The skip list (docs/FORM.md) and demand 3 (docs/PROMISES.md): what a walk is, and what the list has to say of it. What comes before DEMAND 3 knows nothing of pruning.
 -- A function's body is laid out as the acts of its text, in the order in which they stand; a walk goes from act to act.
 use Rattle.std.specs.Prelude.{ℕ, suc, ◌+◌, Bool, true, false, ◌&&◌, not, ◌≡◌, ◌↔◌, length, get_or, take, drop, eqb}
 use mathlib.Core.List.{List, [], ◌∷◌, ◌++◌, map, flat_map}

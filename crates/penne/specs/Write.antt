@@ -1,4 +1,4 @@
--- The encoder: 01, "The script tree". `x_b` are the bytes of an x; of a place its number is written.
+-- The encoder: the script tree of docs/FORM.md. `x_b` are the bytes of an x; of a place its number is written.
 use Rattle.std.specs.Prelude.{ℕ, zero, suc, ◌+◌, ◌/◌, ◌%◌, true, false, length, ltb}
 use mathlib.Core.List.{List, [], ◌∷◌, ◌++◌, flat_map}
 use Rattle.std.proofs.Math.Option.{Option, none, some}

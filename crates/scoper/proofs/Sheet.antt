@@ -1,4 +1,4 @@
--- P1 to P8 of 01 about the code: `analyze`, lent what the sheet lends, tells and leaves for each of the eight trees exactly what stands in the table.
+-- P1 to P8 (docs/FORM.md) about the code: `analyze`, lent what the sheet lends, tells and leaves for each of the eight trees exactly what stands in the table.
 use Prim.Native.Nat.{ℕ, zero, suc}
 use native.Mathlib.Omega.{arith}
 use mathlib.Core.Path.{◌≡◌, refl, sym, ap, ◌∙◌}

@@ -1,4 +1,4 @@
-// The script tree, read and not kept: where each part ends, or the refusal that document 01's table gives.
+// The script tree, read and not kept: where each part ends, or the refusal that the table in docs/FORM.md gives.
 #![tactic(auto)]
 
 pub mod statement; // statements and bodies

@@ -1,4 +1,4 @@
--- Refusals 3 to 10 at their edges, numbers and places by hand from 01. Written by tools/penne/tables.py.
+-- Refusals 3 to 10 at their edges, numbers and places by hand from docs/FORM.md. Written by tools/penne/tables.py.
 use Prim.Native.Nat.{ℕ}
 use mathlib.Core.Bool.{true, false}
 use mathlib.Core.Path.{◌≡◌, refl}

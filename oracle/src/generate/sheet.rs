@@ -1,4 +1,4 @@
-//! The bench sheet and the proved set P1 to P8, with what 01 says of each.
+//! The bench sheet and the proved set P1 to P8, with what docs/FORM.md says of each.
 
 use super::form::*;
 use crate::cat;

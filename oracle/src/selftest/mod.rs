@@ -1,5 +1,5 @@
 //! The oracle's checks of itself. Each compares two things made independently:
-//! the original's answers with 01's words, with the models, or with themselves.
+//! the original's answers with the words of docs/FORM.md, with the models, or with themselves.
 
 mod limits;
 mod proved;
@@ -11,7 +11,7 @@ pub fn selftest(count: usize, seed: u64) -> String {
     let limits = limits::check();
     proved::check();
     format!(
-        "bench sheet, P1 to P8, {limits} edges and limits of the table: as 01 says\n{}",
+        "bench sheet, P1 to P8, {limits} edges and limits of the table: as docs/FORM.md says\n{}",
         trees::check(count, seed)
     )
 }

@@ -1,4 +1,4 @@
-//! The bench sheet and P1 to P8, checked by 01's words.
+//! The bench sheet and P1 to P8, checked by the words of docs/FORM.md.
 
 use crate::generate::form::Bytes;
 use crate::generate::sheet;

@@ -1,4 +1,4 @@
-//! Random trees: the original, the models and 01's laws against each other.
+//! Random trees: the original, the models and the laws of docs/FORM.md against each other.
 
 use crate::bodies::{bodies, Act};
 use crate::edges::Outcome;
