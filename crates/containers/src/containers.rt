@@ -11,14 +11,14 @@ use memory::rows::{add, has, join, remove};
 use memory::words::{set_word, word};
 
 // Which row.
-#[derive(Drop)]
+#[derive(Clone, Copy)]
 pub enum Found {
     At(usize),
     Nothing,
 }
 
 // An identifier that is predeclared: its name, its place, its id.
-#[derive(Drop)]
+#[derive(Clone, Copy)]
 pub struct Declared {
     pub name: u32,
     pub place: u32,
@@ -26,7 +26,7 @@ pub struct Declared {
 }
 
 // What becomes of an edge.
-#[derive(Drop)]
+#[derive(Clone, Copy)]
 pub enum Contained {
     Fine,
     Poisoned,

@@ -49,7 +49,7 @@ fn parameter(tree: &[u8], answer: &mut [u8], work: &mut [u32], st: Walk) -> Walk
 }
 
 // A parameter or member whose name is declared, with its place; or one whose name is a poison. The walk is at its type.
-#[derive(Drop)]
+#[derive(Clone, Copy)]
 pub enum Entry {
     Named(Walk, u32),
     Nameless(Walk),
@@ -154,7 +154,7 @@ fn member_type(tree: &[u8], answer: &mut [u8], work: &mut [u32], st: Walk, by: H
 }
 
 // Who contains what a member names: the structure by that member, or nobody.
-#[derive(Drop)]
+#[derive(Clone, Copy)]
 pub enum Holding {
     By(Holder),
     Nobody,

@@ -15,13 +15,13 @@ pub struct Counts {
 }
 
 // Where a part ends and what is counted by then, or the refusal and its place.
-#[derive(Drop)]
+#[derive(Clone, Copy)]
 pub enum Passed {
     To(usize, Counts),
     Refused(u32, usize),
 }
 
-#[derive(Drop)]
+#[derive(Clone, Copy)]
 pub enum Counted {
     Are(Counts),
     TooMany,

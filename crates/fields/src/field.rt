@@ -15,7 +15,7 @@ pub struct Identifier {
 }
 
 // What reading an identifier finds.
-#[derive(Drop)]
+#[derive(Clone, Copy)]
 pub enum Identified {
     Is(Identifier, usize),
     Not(u32, usize),

@@ -5,7 +5,7 @@ ghost use Rattle.fields.specs.Answers.{Last, Gives};
 
 // What reading a field finds: its value and the next cursor, or the refusal and its place.
 // Of a part that is no number the value means nothing.
-#[derive(Drop)]
+#[derive(Clone, Copy)]
 pub enum Read {
     Number(u32, usize),
     Refused(u32, usize),

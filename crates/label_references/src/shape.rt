@@ -20,21 +20,21 @@ use tree::declaration::parameters;
 use tree::statement::stmt;
 
 // How far the statements are laid out: the next byte, what is counted by then, and 1 + the number of the last statement laid out beside the ones before it.
-#[derive(Drop)]
+#[derive(Clone, Copy)]
 pub enum Shaped {
     To(usize, Counts, u32),
     Not,
 }
 
 // A list of statements: 1 + the number of its last one, 0 where it is empty.
-#[derive(Drop)]
+#[derive(Clone, Copy)]
 pub enum Body {
     Laid(u32),
     Without,
 }
 
 // Where a function's statements begin, and what is counted by then.
-#[derive(Drop)]
+#[derive(Clone, Copy)]
 pub enum Start {
     At(usize, Counts),
     Without,

@@ -9,7 +9,7 @@ use fields::number::{Read, below, number};
 use tree::declaration::declaration;
 
 // A structure's name number; what is no structure has none.
-#[derive(Drop)]
+#[derive(Clone, Copy)]
 pub enum Titled {
     By(u32),
     Not,

@@ -14,20 +14,20 @@ use name_table::bytes_at;
 use tree::answered_layout;
 use tree::script::Laid;
 
-#[derive(Drop)]
+#[derive(Clone, Copy)]
 pub enum Depth {
     Is(u32),
     Refused(u32, usize),
 }
 
-#[derive(Drop)]
+#[derive(Clone, Copy)]
 pub enum Container {
     Is(bool),
     Refused(u32, usize),
 }
 
 // Where a structure's name stands in the tree, and its length.
-#[derive(Drop)]
+#[derive(Clone, Copy)]
 pub enum Named {
     At(usize, usize),
     Refused(u32, usize),

@@ -28,14 +28,14 @@ struct Case {
 }
 
 // What the program has of its own: cases and differences so far.
-#[derive(Drop)]
+#[derive(Clone, Copy)]
 struct Count {
     cases: u32,
     differ: u32,
 }
 
 // What of a case differs.
-#[derive(Drop)]
+#[derive(Clone, Copy)]
 enum Part {
     Nothing,
     Number,

@@ -10,7 +10,7 @@ use memory::words::{clear_words, clear_words_from};
 use passes::{Ended, scope};
 
 // The answer's length in bytes and the list's in records, or a refusal's number and place.
-#[derive(Drop)]
+#[derive(Clone, Copy)]
 pub enum Scoped {
     Answer(usize, usize),
     Refused(u32, usize),

@@ -14,7 +14,7 @@ use tree::script::{Laid, Layout};
 use variable_references::script::{Answered, variable_references};
 
 // How many bytes of the answer and words of the list were written, or a refusal's number and place.
-#[derive(Drop)]
+#[derive(Clone, Copy)]
 pub enum Ended {
     Written(usize, usize),
     Refused(u32, usize),

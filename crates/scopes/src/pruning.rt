@@ -9,7 +9,7 @@ use memory::layout::{LABEL_GOTO, LABEL_NOTE, LOCAL_FATE, LOCAL_GOTO, LOCAL_ID};
 use memory::words::{set_word, word};
 
 // What became of a variable: pruned by the label of that row, after a goto at that place.
-#[derive(Drop)]
+#[derive(Clone, Copy)]
 pub enum Fate {
     Standing,
     Poisoned,

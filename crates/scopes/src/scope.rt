@@ -12,7 +12,7 @@ pub struct Scope {
 }
 
 // Which entry.
-#[derive(Drop)]
+#[derive(Clone, Copy)]
 pub enum Found {
     At(usize),
     Nothing,

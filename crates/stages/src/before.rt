@@ -10,7 +10,7 @@ use walk::names::{find_function_in, function_at};
 use walk::state::Walk;
 
 // Was the name declared before?
-#[derive(Drop)]
+#[derive(Clone, Copy)]
 pub enum Before {
     Yes(Fault),
     No,

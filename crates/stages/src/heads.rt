@@ -14,7 +14,7 @@ pub struct Start {
     pub parts: usize,
 }
 
-#[derive(Drop)]
+#[derive(Clone, Copy)]
 pub enum Head {
     Named(Start),
     Import,

@@ -14,7 +14,7 @@ use tree::ends::past;
 use tree::script::Layout;
 
 // What is counted when all is declared, and the next id.
-#[derive(Drop)]
+#[derive(Clone, Copy)]
 pub struct Predeclared {
     pub counts: Counts,
     pub next_id: u32,

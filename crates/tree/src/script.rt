@@ -21,7 +21,7 @@ pub struct Layout {
     pub depths: usize,
 }
 
-#[derive(Drop)]
+#[derive(Clone, Copy)]
 pub enum Laid {
     Out(Layout),
     Refused(u32, usize),

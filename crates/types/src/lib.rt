@@ -21,7 +21,7 @@ use walk::names::{Used, use_constant, use_struct};
 use walk::state::Walk;
 
 // In both cases the walk is behind the type; where it is bad, the answer is as long as before it.
-#[derive(Drop)]
+#[derive(Clone, Copy)]
 pub enum Typed {
     Fine(Walk),
     Bad(Walk, Fault),

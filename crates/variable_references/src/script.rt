@@ -18,7 +18,7 @@ use tree::script::Layout;
 use walk::state::{Script, Tables, Walk};
 
 // How far answer and list are written, or that they did not fit.
-#[derive(Drop)]
+#[derive(Clone, Copy)]
 pub struct Answered {
     pub wrote: Wrote,
     pub listed: Wrote,

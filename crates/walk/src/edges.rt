@@ -22,7 +22,7 @@ pub struct Holder {
 }
 
 // What becomes of a containee.
-#[derive(Drop)]
+#[derive(Clone, Copy)]
 pub enum Edge {
     Fine,
     Bad(Fault),

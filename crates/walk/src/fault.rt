@@ -7,7 +7,7 @@ use answer::poison::then_poison;
 use answer::wrote::Wrote;
 use fields::field::Identifier;
 
-#[derive(Drop)]
+#[derive(Clone, Copy)]
 pub struct Fault {
     pub kind: u32,
     pub name: u32,

@@ -21,14 +21,14 @@ use scopes::pruning::{Fate, fate_of, poison_variable};
 use scopes::scope::{Found, Local, local_at};
 
 // A name that is used: the identifier made anew, or the poison in its place.
-#[derive(Drop)]
+#[derive(Clone, Copy)]
 pub enum Used {
     As(Identifier),
     Not(Fault),
 }
 
 // A name that changes the state too.
-#[derive(Drop)]
+#[derive(Clone, Copy)]
 pub enum Named {
     As(Walk, Identifier),
     Not(Walk, Fault),
@@ -75,7 +75,7 @@ pub fn declare_variable(work: &mut [u32], st: Walk, kind: u32, i: Identifier, fr
 }
 
 // Where the outermost variable of a name was declared.
-#[derive(Drop)]
+#[derive(Clone, Copy)]
 pub enum Place {
     At(u32),
     Nowhere,
