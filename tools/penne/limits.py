@@ -39,12 +39,12 @@ whole = [
 LOOP, LABEL, DECLARE = cat(3, 1), label(ident(0, 1), 1), declare(1, ident(0, 1))
 PARAM, HEAD, STRUCT = cat(1, err(0), err(0)), cat(2, 0, 1, 1, ident(0, 2), lst(), ok(0)), structure(ident(0, 1), [], ok(0))
 CONST, FUNCTION = const(TRUE)[DECL:-1], function(ident(0, 1), err(0), ok(0))
-edges = [('readDecl', STRUCT, 'containers', 128), ('readDecl', CONST, 'containers', 128), ('readDecl', HEAD, 'functions', 256), ('readDecl', FUNCTION, 'functions', 256),
-         ('readParam 63 true', PARAM, 'entries', 1024), ('readParam 63 false', PARAM, 'entries', 1024), ('readStmt 63', LABEL, 'entries', 1024), ('readStmt 63', DECLARE, 'entries', 1024),
-         ('readStmt 63', LOOP, 'statements', 2048), ('readStmt 63', LABEL, 'statements', 2048), ('readStmt 63', DECLARE, 'statements', 2048)]
+edges = [('read_decl', STRUCT, 'containers', 128), ('read_decl', CONST, 'containers', 128), ('read_decl', HEAD, 'functions', 256), ('read_decl', FUNCTION, 'functions', 256),
+         ('read_param 63 true', PARAM, 'entries', 1024), ('read_param 63 false', PARAM, 'entries', 1024), ('read_stmt 63', LABEL, 'entries', 1024), ('read_stmt 63', DECLARE, 'entries', 1024),
+         ('read_stmt 63', LOOP, 'statements', 2048), ('read_stmt 63', LABEL, 'statements', 2048), ('read_stmt 63', DECLARE, 'statements', 2048)]
 parts = [(reader, b, what, most - 1, 0) for reader, b, what, most in edges] + [(reader, b, what, most, 8) for reader, b, what, most in edges]
-parts += [('readStmt 63', LOOP, 'entries', 1024, 0), ('readDecl', cat(4, 0, 1), 'containers', 128, 0), ('readDecl', cat(5, 0), 'functions', 256, 0),      # these do not count there
-          ('readStmt 0', LOOP, 'statements', 2048, 7), ('readParam 63 true', b'\x80\0', 'entries', 1024, 4), ('readStmt 63', num(9), 'statements', 2048, 5)]  # and these come first
+parts += [('read_stmt 63', LOOP, 'entries', 1024, 0), ('read_decl', cat(4, 0, 1), 'containers', 128, 0), ('read_decl', cat(5, 0), 'functions', 256, 0),      # these do not count there
+          ('read_stmt 0', LOOP, 'statements', 2048, 7), ('read_param 63 true', b'\x80\0', 'entries', 1024, 4), ('read_stmt 63', num(9), 'statements', 2048, 5)]  # and these come first
 
 def counts(what, n): return 'record { %s }' % '; '.join('%s = %d' % (w, n if w == what else 0) for w in ('containers', 'functions', 'entries', 'statements'))
 
@@ -52,16 +52,16 @@ def text():
     out = """-- Refusals 3 to 10 at their edges, numbers and places by hand from docs/FORM.md. Written by tools/penne/tables.py.
 use Prim.Native.Nat.{ℕ}
 use mathlib.Core.Bool.{true, false}
-use mathlib.Core.Path.{_≡_, refl}
-use mathlib.Core.List.{List, [], _∷_, map}
-use Rattle·penne·specs.specs.Reader.{Counts, Cur, Got, got, refused}
-use Rattle·penne·specs.specs.Read.{decode, incoming, readDecl, readParam, readStmt}
-use Rattle·penne·proofs.proofs.Run.{run}
+use mathlib.Core.Path.{◌≡◌, refl}
+use mathlib.Core.List.{List, [], ◌∷◌, map}
+use Rattle.penne.specs.Reader.{Counts, Cur, Got, got, refused}
+use Rattle.penne.specs.Read.{decode, incoming, read_decl, read_param, read_stmt}
+use Rattle.penne.proofs.Run.{run}
 
 -- number and place of a refusal, 0 and 0 for none
-refusalOf : {A : Type 0} → Got A → ℕ × ℕ
-refusalOf (got a c) = (0, 0)
-refusalOf (refused n p) = (n, p)
+refusal_of : {A : Type 0} → Got A → ℕ × ℕ
+refusal_of (got a c) = (0, 0)
+refusal_of (refused n p) = (n, p)
 
 -- bytes, number and place
 table : List (List ℕ × (ℕ × ℕ))
@@ -70,8 +70,8 @@ table =
     for what, b, n, p in whole: out += '    (%s, (%d, %d)) ∷  -- %s\n' % (antt(b), n, p, what)
     out += """    []
 
-refusals : map (λ r. refusalOf (decode incoming (r .0))) table ≡ map (λ r. r .1) table
-unfolding run table refusalOf
+refusals : map (λ r. refusal_of (decode incoming r.0)) table ≡ map (λ r. r.1) table
+unfolding run table refusal_of
 refusals = refl
 
 -- a cursor at 0, with a table of one name, and so much counted
@@ -79,9 +79,9 @@ after : Counts → Cur
 after k = record { at = 0; names = 1; counts = k }
 
 -- row 8: each largest count passes, one more does not
-limits : map (λ r. r .0) limit ≡ map (λ r. (r .1, 0)) limit
+limits : map (λ r. r.0) limit ≡ map (λ r. (r.1, 0)) limit
 """
     head, claim = out.rsplit('\n-- row 8', 1)
     rows = '\n-- what is read after so much was counted, and the number it is refused by\nlimit : List ((ℕ × ℕ) × ℕ)\nlimit =\n'
-    for reader, b, what, n, k in parts: rows += '    (refusalOf (%s (%s) (after (%s))), %d) ∷\n' % (reader, antt(b), counts(what, n), k)
-    return head + rows + '    []\n\n-- row 8' + claim + 'unfolding run refusalOf after limit\nlimits = refl\n'
+    for reader, b, what, n, k in parts: rows += '    (refusal_of (%s (%s) (after (%s))), %d) ∷\n' % (reader, antt(b), counts(what, n), k)
+    return head + rows + '    []\n\n-- row 8' + claim + 'unfolding run refusal_of after limit\nlimits = refl\n'

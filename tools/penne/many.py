@@ -21,6 +21,6 @@ with tempfile.TemporaryDirectory() as top:
         with open(os.path.join(crate, 'proofs/%s.antt' % mods[-1]), 'w') as f: f.write(tables(rows[n:n + 200]))
     with open(os.path.join(crate, 'proofs/Lib.antt'), 'w') as f: f.write(''.join('pub mod %s\n' % m for m in mods))
     with open(os.path.join(top, 'crates.txt'), 'w') as f: f.write('penne:\n')
-    r = subprocess.run(['rt', 'check', 'penne'], cwd=top, capture_output=True, text=True)
-    print('\n'.join(l for l in (r.stdout + r.stderr).split('\n') if l.startswith('rt:') or 'error' in l))
+    r = subprocess.run(['rt', 'check'], cwd=crate, capture_output=True, text=True)
+    print('\n'.join(l for l in (r.stdout + r.stderr).split('\n') if l.startswith(('rt:', 'logic=')) or 'error' in l))
     sys.exit(r.returncode)

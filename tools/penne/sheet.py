@@ -74,10 +74,10 @@ row('label l in both block branches: ids 1 then 2',
 def text():
     out = '''-- P1 to P8 (docs/FORM.md), one table under one claim; inputs and answers are built by hand from that page's words in tools/penne/sheet.py. Written by tools/penne/tables.py.
 use Prim.Native.Nat.{ℕ}
-use mathlib.Core.Path.{_≡_, refl}
-use mathlib.Core.List.{List, [], _∷_, map}
-use Rattle·penne·specs.specs.Scoper.{scoped, outcome, answer}
-use Rattle·penne·proofs.proofs.Run.{run}
+use mathlib.Core.Path.{◌≡◌, refl}
+use mathlib.Core.List.{List, [], ◌∷◌, map}
+use Rattle.penne.specs.Scoper.{scoped, outcome, answer}
+use Rattle.penne.proofs.Run.{run}
 
 -- a tree, the answered tree, the list's records
 pub table : List (List ℕ × List ℕ × List (ℕ × ℕ))
@@ -88,7 +88,7 @@ table =
     return out + '''    []
 
 -- each tree, with the room that the listing program lends, is answered so, and all that was lent besides is zero
-pub p1-to-p8 : map (λ r. scoped (r .0) 65535 16384 16384) table ≡ map (λ r. outcome 65535 16384 16384 (answer (r .1) (r .2))) table
+pub p1_to_p8 : map (λ r. scoped r.0 65535 16384 16384) table ≡ map (λ r. outcome 65535 16384 16384 (answer r.1 r.2)) table
 unfolding run table
-p1-to-p8 = refl
+p1_to_p8 = refl
 '''

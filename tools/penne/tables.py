@@ -50,17 +50,17 @@ print('%d lent sizes, %d answers of the three readers, %d of them refusals' % (l
 
 def rooms_text():
     out = '-- Lent memory of several sizes, and the three readers, with the answers of the original Rust. Written by tools/penne/tables.py.\n'
-    out += HEAD.replace('{true}', '{Bool, true, false}').replace('use Rattle', 'use lib.ListN.{replicate}\nuse Rattle', 1).replace('scopedAnswer}', 'scopedAnswer, Asked, told, untold}').replace('{besides}', '{readers}')
+    out += HEAD.replace('{true}', '{Bool, true, false}').replace('use Rattle', 'use lib.ListN.{replicate}\nuse Rattle', 1).replace('scoped_answer}', 'scoped_answer, Asked, told, untold}').replace('{besides}', '{readers}')
     out += '\n-- a tree, the room lent, its answer\nrooms : List (List ℕ × ℕ × ℕ × ℕ × Answer)\nrooms =\n'
     for r, room, got in lent: out += '    (%s, %d, %d, %d, %s) ∷\n' % (antt(r.b), *room, lent_answer(r, got))
-    out += '    []\n\nrooms-same : map (λ r. scopedAnswer (r .0) (r .1) (r .2) (r .3)) rooms ≡ map (λ r. r .4) rooms\nunfolding run rooms\nrooms-same = refl\n'
-    out += '\n-- row 1, before row 2\nlong : scopedAnswer (replicate 65536 0) 0 0 0 ≡ refusal 1 0\nunfolding run\nlong = refl\n'
+    out += '    []\n\nrooms_same : map (λ r. scoped_answer r.0 r.1 r.2 r.3) rooms ≡ map (λ r. r.4) rooms\nunfolding run rooms\nrooms_same = refl\n'
+    out += '\n-- row 1, before row 2\nlong : scoped_answer (replicate 65536 0) 0 0 0 ≡ refusal 1 0\nunfolding run\nlong = refl\n'
     out += '\n-- a tree, a declaration number, the maximum, the three answers\nasks : List (List ℕ × ℕ × ℕ × (Asked ℕ × Asked Bool × Asked (ℕ × ℕ)))\nasks =\n'
     for b, k, most, got in asked: out += '    (%s, %d, %d, (%s)) ∷\n' % (antt(b), k, most, told(got))
-    return out + '    []\n\nasks-same : map (λ r. readers (r .0) (r .1) (r .2)) asks ≡ map (λ r. r .3) asks\nunfolding runChecks asks\nasks-same = refl\n'
+    return out + '    []\n\nasks_same : map (λ r. readers r.0 r.1 r.2) asks ≡ map (λ r. r.3) asks\nunfolding run_checks asks\nasks_same = refl\n'
 
 vectors = '-- %d trees with the answers of the original Rust. Written by tools/penne/tables.py.\n' % len(rows) + tables(rows)
 for name, text in (('Run', run.text()), ('Sheet', sheet.text())):
     with open(run.CRATE + 'proofs/%s.antt' % name, 'w') as f: f.write(text)
 for name, text in (('Vectors', vectors), ('Limits', limits.text()), ('Rooms', rooms_text())):
-    with open('crates/vectors/proofs/%s.antt' % name, 'w') as f: f.write(outside(text))
+    with open('crates/vectors/proofs/%s.antt' % name, 'w') as f: f.write(text)

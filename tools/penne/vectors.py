@@ -57,16 +57,13 @@ def choose(rows, differ, records, edges, other, refused):
     pick(refused, lambda r: r.number)
     return kept
 
-def inside(text): return text.replace('Rattle·penne.specs.', 'Rattle·penne·specs.specs.').replace('Rattle·penne.proofs.', 'Rattle·penne·proofs.proofs.')  # as the crate itself names its modules
-def outside(text): return text.replace('Rattle·penne·specs.specs.', 'Rattle·penne.specs.').replace('Rattle·penne·proofs.proofs.', 'Rattle·penne.proofs.')  # as another crate does
-
 HEAD = """use Prim.Native.Nat.{ℕ}
 use mathlib.Core.Bool.{true}
-use mathlib.Core.Path.{_≡_, refl}
-use mathlib.Core.List.{List, [], _∷_, map}
-use Rattle·penne·specs.specs.Scoper.{Answer, answer, refusal, scopedAnswer}
-use Rattle·penne·proofs.proofs.Checks.{besides}
-use Rattle·penne·proofs.proofs.Run.{run, runChecks}
+use mathlib.Core.Path.{◌≡◌, refl}
+use mathlib.Core.List.{List, [], ◌∷◌, map}
+use Rattle.penne.specs.Scoper.{Answer, answer, refusal, scoped_answer}
+use Rattle.penne.proofs.Checks.{besides}
+use Rattle.penne.proofs.Run.{run, run_checks}
 """
 def answer(r): return 'refusal %d %d' % (r.number, r.at) if r.number else 'answer (%s) (%s)' % (antt(r.answer), pairs(r.skips))
 
@@ -80,6 +77,6 @@ def tables(rows, size=20):
             out += '    -- %s\n' % r.says if r.says else ''
             out += '    (%s, %s, %s, %s) ∷\n' % (antt(r.b), answer(r), *((pairs(r.walks), pairs(r.edges)) if not r.number else ('[]', '[]')))
         out += '    []\n'
-        out += '\nsame%d : map (λ r. scopedAnswer (r .0) 65535 16384 16384) table%d ≡ map (λ r. r .1) table%d\nunfolding run table%d\nsame%d = refl\n' % (k, k, k, k, k)
-        out += '\nbesides%d : map (λ r. besides (r .0)) table%d ≡ map (λ r. (r .2, r .3, true)) table%d\nunfolding runChecks table%d\nbesides%d = refl\n' % (k, k, k, k, k)
+        out += '\nsame%d : map (λ r. scoped_answer r.0 65535 16384 16384) table%d ≡ map (λ r. r.1) table%d\nunfolding run table%d\nsame%d = refl\n' % (k, k, k, k, k)
+        out += '\nbesides%d : map (λ r. besides r.0) table%d ≡ map (λ r. (r.2, r.3, true)) table%d\nunfolding run_checks table%d\nbesides%d = refl\n' % (k, k, k, k, k)
     return out
