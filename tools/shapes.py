@@ -1,7 +1,7 @@
 #!/usr/bin/env python3
 """Runs a reading program on large trees of many shapes in a stack of 256 KB, beside the judge.
   python3 tools/shapes.py crates/reads/out/reads
-Run at the repository's root. More words before the program start it, as an emulator does where programs are for another processor."""
+Run at the repository's root."""
 import resource, subprocess, sys
 
 JUDGE = 'oracle/target/release/oracle'
