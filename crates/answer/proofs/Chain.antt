@@ -138,3 +138,6 @@ put_within {w} {xs} {o} {r} {o'} p = record {
   is = p.told ∙ ap (λ (n : ℕ). wrote_after w n (length o)) (sym (add-zero (length xs))) ∙ sym (wrote_on w (length xs) 0 (length o))
       ∙ ap (λ (v : Wrote). wrote_after v 0 (length o)) (sym p.told) ∙ ap (wrote_after r 0) (sym (put_length p));
 }
+
+pub then_more : {w : Wrote} {a b o : List ℕ} {r : Wrote} {o' : List ℕ} {r' : Wrote} {o'' : List ℕ} → Put w a o r o' → Put r b o' r' o'' → Put w (a ++ b) o r' o''
+then_more p q = p ▸ q

@@ -38,8 +38,8 @@ copied_more {xs} {o} {s} {n} c h k =
       is = ap (λ (l : List ℕ). set l n (get_or xs n 0)) c.is ∙ bytes_suc n xs o h k' ∙ ap (λ (i : ℕ). laid (take i xs) o) (sym (add-one n));
     }
 
-pub copied_done : {xs o s : List ℕ} {n : ℕ} → Copied xs o s n → length xs ≤ n → Front xs o (Bytes n) s
-copied_done {xs} {o} {s} {n} c h = record { told = told_bytes n _ _ (omega arith) (omega arith); left = c.is ∙ ap (λ (l : List ℕ). laid l o) (take_all n xs h) }
+pub copied_done : {xs o s : List ℕ} {n : ℕ} → Copied xs o s n → length xs ≤ n → Front xs o (Bytes (length xs)) s
+copied_done {xs} {o} {s} {n} c h = record { told = told_bytes (length xs) _ _ refl (omega arith); left = c.is ∙ ap (λ (l : List ℕ). laid l o) (take_all n xs h) }
 
 pub copied_full : {xs o s : List ℕ} {n : ℕ} → Copied xs o s n → n < length xs → length s ≤ n → Front xs o NoRoom s
 copied_full {xs} {o} {s} {n} c h k = record {

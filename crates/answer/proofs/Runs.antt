@@ -1,18 +1,19 @@
 -- Numbers one after another: from a few values, and from a part of the tree.
 use mathlib.Core.Path.{◌≡◌, refl, sym, ap, ◌∙◌}
 use mathlib.Core.List.{List, [], ◌∷◌, ◌++◌, append-nil, append_assoc, flat_map}
-use Prim.Native.Nat.{ℕ, zero, suc, ◌+◌, ◌-◌, ◌≤◌, ◌<◌}
+use Prim.Native.Nat.{ℕ, zero, suc, ◌+◌, ◌-◌, ◌≤◌, ◌<◌, min}
 use native.Mathlib.Numerals.{add-one}
 use native.Mathlib.Decide.{dec_lt}
 use native.Mathlib.Omega.{arith}
 use lib.ListN.{length, take, drop, get_or, length-drop, drop_of_length-le}
 use lib.Seq.{take-suc, take_all, take-nil, take-add, drop-drop}
 use borrow.Author.Tests.{lt-ltb, le-ltb}
+use Rattle.std.proofs.lemmas.List.{take_min}
 use Rattle.penne.specs.Reader.{Cur, Got, got, refused, num, nothing}
 use Rattle.penne.specs.Write.{num_b}
-use Rattle.fields.specs.declared.number.Read.{Read}
-use Rattle.fields.specs.declared.number.Read.TheVariants.{Number, Refused}
-use Rattle.fields.specs.Answers.{cursor, number_of, Gives}
+use Rattle.std.specs.Prelude.{Result, Ok, Err}
+use Rattle.fields.specs.declared.refusal.Refusal.{Refusal}
+use Rattle.fields.specs.Answers.{cursor, row_of, number_of, Gives}
 use Rattle.answer.specs.declared.wrote.Wrote.{Wrote}
 use Rattle.answer.specs.Out.{Put}
 use Rattle.answer.specs.Parts.{span, renumbered, renumbered_by}
@@ -30,27 +31,22 @@ unfolding flat_map
 each_one_more f [] x = append-nil (f x)
 each_one_more f (y ∷ xs) x = ap (λ (l : List ℕ). f y ++ l) (each_one_more f xs x) ∙ sym (append_assoc (f y) (flat_map f xs) (f x))
 
--- the loop: of n values the first i are written
-pub record Each (w : Wrote) (xs o₀ : List ℕ) (n i : ℕ) (c : Wrote) (o : List ℕ) : Type 0 where
-  pub few : i ≤ n
+-- the loop: the first i values are written
+pub record Each (w : Wrote) (xs o₀ : List ℕ) (i : ℕ) (c : Wrote) (o : List ℕ) : Type 0 where
   pub put : Put w (flat_map num_b (take i xs)) o₀ c o
 
-pub each_start : {w : Wrote} {xs o₀ : List ℕ} {n : ℕ} {c : Wrote} {o : List ℕ} → Put w [] o₀ c o → Each w xs o₀ n 0 c o
+pub each_start : {w : Wrote} {xs o₀ : List ℕ} {c : Wrote} {o : List ℕ} → Put w [] o₀ c o → Each w xs o₀ 0 c o
 unfolding flat_map
-each_start p = record { few = omega arith; put = p }
+each_start p = record { put = p }
 
-module _ {w : Wrote} {xs o₀ : List ℕ} {n i : ℕ} {c : Wrote} {o : List ℕ} (e : Each w xs o₀ n i c o) where
-  pub each_more : {c' : Wrote} {o' : List ℕ} → i < n → i < length xs → Put c (num_b (get_or xs i 0)) o c' o' → Each w xs o₀ n (i + 1) c' o'
-  each_more l h p = record {
-    few = omega arith;
-    put = put_same (sym (ap (λ (k : ℕ). flat_map num_b (take k xs)) (add-one i) ∙ ap (flat_map num_b) (take-suc xs i 0 h) ∙ each_one_more num_b (take i xs) (get_or xs i 0))) (e.put ▸ p);
-  }
+pub each_more : {w : Wrote} {xs o₀ : List ℕ} {i : ℕ} {c : Wrote} {o : List ℕ} {c' : Wrote} {o' : List ℕ}
+    → Each w xs o₀ i c o → i < length xs → Put c (num_b (get_or xs i 0)) o c' o' → Each w xs o₀ (i + 1) c' o'
+each_more {xs = xs} {i = i} e h p = record {
+  put = put_same (sym (ap (λ (k : ℕ). flat_map num_b (take k xs)) (add-one i) ∙ ap (flat_map num_b) (take-suc xs i 0 h) ∙ each_one_more num_b (take i xs) (get_or xs i 0))) (e.put ▸ p);
+}
 
-  pub each_done : n ≤ i → Put w (flat_map num_b (take n xs)) o₀ c o
-  each_done h = let f = e.few in let z : i ≡ n = omega arith in put_same (ap (λ (m : ℕ). flat_map num_b (take m xs)) z) e.put
-
-  pub each_out : i < n → length xs ≤ i → Put w (flat_map num_b (take n xs)) o₀ c o
-  each_out h k = put_same (ap (flat_map num_b) (take_all i xs k ∙ sym (take_all n xs (omega arith)))) e.put
+pub each_done : {w : Wrote} {xs o₀ : List ℕ} (n : ℕ) {i : ℕ} {c : Wrote} {o : List ℕ} → Each w xs o₀ i c o → i ≡ min n (length xs) → Put w (flat_map num_b (take n xs)) o₀ c o
+each_done {xs = xs} n e h = put_same (ap (λ (k : ℕ). flat_map num_b (take k xs)) h ∙ ap (flat_map num_b) (take_min n xs)) e.put
 
 -- A PART OF THE TREE, AS IT IS
 
@@ -116,16 +112,14 @@ module _ (s : List ℕ) (at to : ℕ) where
       renumbered_step h ∙ simp (lt-ltb at to h, e, renumbered_by) (ap (λ (r : List ℕ). num_b v ++ r) (fuel_same (to - at) (to - next.at) s next.at to (omega arith) (omega arith)))
 
 -- what a reading of a number tells
-module _ {s : List ℕ} {at : ℕ} {m : Read} (g : Gives num s at m) where
-  gives_number : {v n : ℕ} → m ≡ Number v n → num s (at_byte at) ≡ got v (at_byte n)
-  unfolding number_of
-  gives_number e = sym (g.is 0 nothing) ∙ ap (number_of 0 nothing) e
+module _ {s : List ℕ} {at : ℕ} {m : Result (ℕ × ℕ) Refusal} (g : Gives num s at m) where
+  gives_number : {v n : ℕ} → m ≡ Ok (v, n) → num s (at_byte at) ≡ got v (at_byte n)
+  gives_number e = g.is 0 nothing ∙ ap (number_of 0 nothing) e
 
-  gives_refused : {n p : ℕ} → m ≡ Refused n p → num s (at_byte at) ≡ refused n p
-  unfolding number_of
-  gives_refused e = sym (g.is 0 nothing) ∙ ap (number_of 0 nothing) e
+  gives_refused : {x : Refusal} → m ≡ Err x → num s (at_byte at) ≡ refused (row_of x.reason) x.place
+  gives_refused e = g.is 0 nothing ∙ ap (number_of 0 nothing) e
 
-  pub gives_later : {v n : ℕ} → m ≡ Number v n → at < n
+  pub gives_later : {v n : ℕ} → m ≡ Ok (v, n) → at < n
   gives_later {v} {n} e = (num_reading s (at_byte at) v (at_byte n) (gives_number e)).later
 
 -- the loop: `done` is written, and the rest begins at `at`
@@ -138,7 +132,7 @@ pub renumbering_start : {w : Wrote} {s : List ℕ} {from to : ℕ} {o₀ : List 
 renumbering_start p = record { done = []; put = p; rest = refl }
 
 module _ {w : Wrote} {s : List ℕ} {from to : ℕ} {o₀ : List ℕ} {at : ℕ} {c : Wrote} {o : List ℕ} (e : Renumbering w s from to o₀ at c o) where
-  pub renumbering_more : {m : Read} {v n : ℕ} {c' : Wrote} {o' : List ℕ} → at < to → Gives num s at m → m ≡ Number v n → Put c (num_b v) o c' o' → Renumbering w s from to o₀ n c' o'
+  pub renumbering_more : {m : Result (ℕ × ℕ) Refusal} {v n : ℕ} {c' : Wrote} {o' : List ℕ} → at < to → Gives num s at m → m ≡ Ok (v, n) → Put c (num_b v) o c' o' → Renumbering w s from to o₀ n c' o'
   renumbering_more {v = v} {n} h g q p = record {
     done = e.done ++ num_b v;
     put = e.put ▸ p;
@@ -151,7 +145,7 @@ module _ {w : Wrote} {s : List ℕ} {from to : ℕ} {o₀ : List ℕ} {at : ℕ}
   pub renumbering_done : to ≤ at → Put w (renumbered s from to) o₀ c o
   renumbering_done h = over (renumbered_end s at to h)
 
-  pub renumbering_out : {m : Read} {n p : ℕ} → at < to → Gives num s at m → m ≡ Refused n p → Put w (renumbered s from to) o₀ c o
+  pub renumbering_out : {m : Result (ℕ × ℕ) Refusal} {x : Refusal} → at < to → Gives num s at m → m ≡ Err x → Put w (renumbered s from to) o₀ c o
   renumbering_out h g q = over (renumbered_refused s at to h (gives_refused g q))
 
 -- WHERE NUMBERS STAND, THEIR BYTES STAND

@@ -3,7 +3,6 @@ ghost use Rattle.std.specs.Prelude.{◌≡◌};
 ghost use Rattle.answer.specs.Out.{Put};
 ghost use Rattle.answer.specs.Parts.{identifier_b, resolved_to};
 
-use super::number::then_number;
 use super::wrote::Wrote;
 use fields::field::Identifier;
 
@@ -11,26 +10,16 @@ use fields::field::Identifier;
 pub fn resolved(i: Identifier, id: u32, authority: u32) -> Identifier
     ensures { result ≡ resolved_to i id authority }
 {
-    Identifier {
-        name: i.name,
-        place: i.place,
-        id: id,
-        authority: authority,
-    }
+    Identifier { id, authority, ..i }
 }
 
-pub fn then_identifier(
-    out: &mut [u8],
-    w: Wrote,
-    name: u32,
-    place: u32,
-    id: u32,
-    authority: u32,
-) -> Wrote
-    ensures { Put w (identifier_b name place id authority) out.old result out.new }
-{
-    let a = then_number(out, w, name);
-    let b = then_number(out, a, place);
-    let c = then_number(out, b, id);
-    then_number(out, c, authority)
+impl Wrote {
+    pub fn then_identifier(self, out: &mut [u8], i: Identifier) -> Wrote
+        ensures { Put self (identifier_b i.name i.place i.id i.authority) out.old result out.new }
+    {
+        self.then_number(out, i.name)
+            .then_number(out, i.place)
+            .then_number(out, i.id)
+            .then_number(out, i.authority)
+    }
 }

@@ -4,7 +4,7 @@ ghost use Rattle.std.specs.Prelude.{take};
 ghost use Rattle.penne.specs.Write.{num_b};
 ghost use Rattle.answer.specs.Out.{Front, Put};
 
-use super::wrote::{Wrote, settled};
+use super::wrote::Wrote;
 
 // To the front of a part.
 pub fn put_number(out: &mut [u8], value: u32) -> Wrote
@@ -24,36 +24,33 @@ pub fn put_number(out: &mut [u8], value: u32) -> Wrote
     }
 }
 
-// After what w counts: the part that begins there is lent.
-pub fn then_number(out: &mut [u8], w: Wrote, value: u32) -> Wrote
-    ensures { Put w (num_b value) out.old result out.new }
-{
-    match w {
-        Wrote::NoRoom => Wrote::NoRoom,
-        Wrote::Bytes(n) => {
-            if out.len() < n {
-                return Wrote::NoRoom;
-            }
-            match put_number(&mut out[n..], value) {
-                Wrote::Bytes(m) => Wrote::Bytes(n + m),
-                Wrote::NoRoom => Wrote::NoRoom,
+impl Wrote {
+    // After what is counted: the part that begins there is lent.
+    pub fn then_number(self, out: &mut [u8], value: u32) -> Wrote
+        ensures { Put self (num_b value) out.old result out.new }
+    {
+        match self {
+            Wrote::NoRoom => Wrote::NoRoom,
+            Wrote::Bytes(n) => {
+                if out.len() < n {
+                    return Wrote::NoRoom;
+                }
+                match put_number(&mut out[n..], value) {
+                    Wrote::Bytes(m) => Wrote::Bytes(n + m),
+                    Wrote::NoRoom => Wrote::NoRoom,
+                }
             }
         }
     }
-}
 
-// The first numbers of a few, one after another.
-pub fn then_each(out: &mut [u8], w: Wrote, values: &[u32], count: usize) -> Wrote
-    ensures { Put w (flat_map num_b (take count values.now)) out.old result out.new }
-{
-    let mut c = settled(out, w);
-    let mut i = 0;
-    while i < count {
-        if values.len() <= i {
-            return c;
+    // The first numbers of a few, one after another.
+    pub fn then_each(self, out: &mut [u8], values: &[u32], count: usize) -> Wrote
+        ensures { Put self (flat_map num_b (take count values.now)) out.old result out.new }
+    {
+        let mut c = self.settled(out);
+        for i in 0..count.min(values.len()) {
+            c = c.then_number(out, values[i]);
         }
-        c = then_number(out, c, values[i]);
-        i += 1;
+        c
     }
-    c
 }

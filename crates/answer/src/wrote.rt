@@ -9,17 +9,19 @@ pub enum Wrote {
     NoRoom,
 }
 
-// A cursor past the end is one with no room.
-pub fn settled(out: &mut [u8], w: Wrote) -> Wrote
-    ensures { Put w [] out.old result out.new }
-{
-    match w {
-        Wrote::NoRoom => Wrote::NoRoom,
-        Wrote::Bytes(n) => {
-            if out.len() < n {
-                return Wrote::NoRoom;
+impl Wrote {
+    // A cursor past the end is one with no room.
+    pub fn settled(self, out: &mut [u8]) -> Wrote
+        ensures { Put self [] out.old result out.new }
+    {
+        match self {
+            Wrote::NoRoom => Wrote::NoRoom,
+            Wrote::Bytes(n) => {
+                if out.len() < n {
+                    return Wrote::NoRoom;
+                }
+                Wrote::Bytes(n)
             }
-            Wrote::Bytes(n)
         }
     }
 }

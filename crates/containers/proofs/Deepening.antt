@@ -120,3 +120,7 @@ poisoning_more o h n = record {
 
 pub poisoning_done : {count : ℕ} {w₀ w : List ℕ} {t : ℕ} → Poisoning count w₀ w t → count ≤ t → PoisonsRest count w₀ w
 poisoning_done {count} {w₀} {w} {t} o h = let high = o.high in let e : t ≡ count = omega arith in subst (λ (k : ℕ). PoisonsRest k w₀ w) e o.done
+
+pub ruleset deepen_laws = (deepen_high, deepen_deep, deepen_not)
+
+pub ruleset or_poisoned_laws = (poison_high, poison_not, poison_is)

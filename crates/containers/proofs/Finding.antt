@@ -4,8 +4,6 @@ use mathlib.Core.Bool.{Bool, true, false, ◌&&◌, not}
 use mathlib.Core.List.{List}
 use mathlib.Core.Option.{Option, none, some}
 use Prim.Native.Nat.{ℕ, ◌+◌, ◌≤◌, ◌<◌}
-use native.Mathlib.Nat.{not-suc-le-zero}
-use native.Mathlib.Decide.{ℕ_discrete}
 use native.Mathlib.Omega.{arith}
 use lib.Dec.{eqb, ltb}
 use lib.ListN.{length, get_or, take}
@@ -15,60 +13,45 @@ use Rattle.memory.specs.Rows.{member}
 use Rattle.penne.specs.Tree.{Spot, Ident}
 use Rattle.penne.specs.Find.{first, is_in, first_named}
 use Rattle.penne.specs.Containers.{Container, Containment, id_of, identifier_of, structures, constants, contained_ids_of, constant_in_cycle}
-use Rattle.containers.specs.declared.containers.Found.{Found}
-use Rattle.containers.specs.declared.containers.Found.TheVariants.{At, Nothing}
+use Rattle.std.specs.Prelude.{Some, None, MatchOption}
+use Rattle.std.specs.Prelude as Rust
 use Rattle.containers.specs.Table.{no_ident, no_container, at, id_at, ids_at, kind_of, contained_in, Holds}
 use Rattle.containers.specs.Calls.{First, here, nowhere, before, found_in, of_kind, row_is, Finds, constant_in, FindsConstant}
 use Rattle.containers.specs.Functions.{function_at, function_in, function_is, FindsFunction}
 use Rattle.containers.proofs.Lists.{first_at, first_none, first_kept, mapped}
 use Rattle.containers.proofs.Changing.{contained_at}
 
--- the loop: no row below i passes
-pub record Searching (test : ℕ → Bool) (i : ℕ) : Type 0 where
-  pub none : (k : ℕ) → k < i → test k ≡ false
-
-pub searching_start : {test : ℕ → Bool} → Searching test 0
-searching_start = record { none = λ k h. absurd (not-suc-le-zero h) }
-
-pub searching_more : {test : ℕ → Bool} {i : ℕ} → Searching test i → test i ≡ false → Searching test (i + 1)
-searching_more {test} {i} s e = record { none = λ k h. go k h (ℕ_discrete k i) }
-  where
-    go : (k : ℕ) → k < i + 1 → Dec (k ≡ i) → test k ≡ false
-    go k h (yes q) = ap test q ∙ e
-    go k h (no q) = s.none k (omega arith)
-
-pub searching_found : {test : ℕ → Bool} {i count : ℕ} → Searching test i → i < count → test i ≡ true → First test count (At i)
-searching_found {i} s h e = here i h e s.none
-
-pub searching_done : {test : ℕ → Bool} {i count : ℕ} → Searching test i → count ≤ i → First test count Nothing
-searching_done s h = nowhere (λ k l. s.none k (omega arith))
+-- what `find` over the rows says, where its closure is the test
+pub first_is : {test : ℕ → Bool} {count : ℕ} (r : Rust.Option ℕ) → MatchOption r ((k : ℕ) → 0 ≤ k → k < count → test k ≡ false) (λ i. (0 ≤ i) × (i < count) × (test i ≡ true) × ((k : ℕ) → 0 ≤ k → k < i → test k ≡ false)) → First test count r
+first_is (Some i) (l, h, e, n) = here i h e (λ k z. n k (omega arith) z)
+first_is None n = nowhere (λ k z. n k (omega arith) z)
 
 -- what was found is a row
-pub first_below : {test : ℕ → Bool} {count : ℕ} {r : Found} → First test count r → (i : ℕ) → r ≡ At i → i < count
+pub first_below : {test : ℕ → Bool} {count : ℕ} {r : Rust.Option ℕ} → First test count r → (i : ℕ) → r ≡ Some i → i < count
 first_below (here k h e n) i q = let z : k ≡ i = cc in omega arith
 first_below (nowhere n) i q = let z : ◌≡◌ {A = ℕ} 0 1 = cc in absurd (omega arith)
 
 -- the first row is the first of the list, where the test on a row is a test on what it stands for
-pub row_first : {A : Type 0} (d : A) (f : A → Bool) (cs : List A) {test : ℕ → Bool} {count : ℕ} {r : Found} → length cs ≡ count → ((k : ℕ) → k < count → test k ≡ f (get_or cs k d)) → First test count r → first f cs ≡ elim r [ At i ↦ some (get_or cs i d) | Nothing ↦ none ]
+pub row_first : {A : Type 0} (d : A) (f : A → Bool) (cs : List A) {test : ℕ → Bool} {count : ℕ} {r : Rust.Option ℕ} → length cs ≡ count → ((k : ℕ) → k < count → test k ≡ f (get_or cs k d)) → First test count r → first f cs ≡ elim r [ Some i ↦ some (get_or cs i d) | None ↦ none ]
 row_first d f cs l t (here i h e n) = first_at d f cs i (omega arith) (sym (t i h) ∙ e) (λ k z. sym (t k (omega arith)) ∙ n k z)
 row_first d f cs l t (nowhere n) = first_none d f cs (λ k z. let y : k < _ = omega arith in sym (t k y) ∙ n k y)
 
 -- the first among the first n rows
-first_before : {test : ℕ → Bool} {count : ℕ} {r : Found} (n : ℕ) → n ≤ count → First test count r → First test n (before n r)
+first_before : {test : ℕ → Bool} {count : ℕ} {r : Rust.Option ℕ} (n : ℕ) → n ≤ count → First test count r → First test n (before n r)
 unfolding before
-first_before {test} n l (here i h e f) = (elim (ltb i n) as (λ b. ltb i n ≡ b → First test n (elim b [ true ↦ At i | false ↦ Nothing ])) [
+first_before {test} n l (here i h e f) = (elim (ltb i n) as (λ b. ltb i n ≡ b → First test n (elim b [ true ↦ Some i | false ↦ None ])) [
   | true ↦ λ q. here i (ltb-true i n q) e f
   | false ↦ λ q. nowhere (λ k z. f k (let y = ltb-false i n q in omega arith))
 ]) refl
 first_before n l (nowhere f) = nowhere (λ k z. f k (omega arith))
 
-taken_same : {A : Type 0} (d : A) (cs : List A) {test : ℕ → Bool} {n : ℕ} {r : Found} → First test n r → ◌≡◌ {A = Option A} (elim r [ At i ↦ some (get_or (take n cs) i d) | Nothing ↦ none ]) (elim r [ At i ↦ some (get_or cs i d) | Nothing ↦ none ])
+taken_same : {A : Type 0} (d : A) (cs : List A) {test : ℕ → Bool} {n : ℕ} {r : Rust.Option ℕ} → First test n r → ◌≡◌ {A = Option A} (elim r [ Some i ↦ some (get_or (take n cs) i d) | None ↦ none ]) (elim r [ Some i ↦ some (get_or cs i d) | None ↦ none ])
 taken_same d cs {n = n} (here i h e f) = ap some (get_or-take n cs i d h)
 taken_same d cs (nowhere f) = refl
 
 -- as row_first, among the first n
-row_before : {A : Type 0} (d : A) (f : A → Bool) (cs : List A) {test : ℕ → Bool} {count : ℕ} {r : Found} (n : ℕ) → n ≤ count → length cs ≡ count → ((k : ℕ) → k < count → test k ≡ f (get_or cs k d)) → First test count r
-    → first f (take n cs) ≡ elim (before n r) [ At i ↦ some (get_or cs i d) | Nothing ↦ none ]
+row_before : {A : Type 0} (d : A) (f : A → Bool) (cs : List A) {test : ℕ → Bool} {count : ℕ} {r : Rust.Option ℕ} (n : ℕ) → n ≤ count → length cs ≡ count → ((k : ℕ) → k < count → test k ≡ f (get_or cs k d)) → First test count r
+    → first f (take n cs) ≡ elim (before n r) [ Some i ↦ some (get_or cs i d) | None ↦ none ]
 row_before d f cs {count = count} n h l t g =
     let q = first_before n h g in
     row_first d f (take n cs) (length-take-le n cs (omega arith)) (λ k z. let y : k < count = omega arith in t k y ∙ ap f (sym (get_or-take n cs k d z))) q ∙ taken_same d cs q
@@ -83,7 +66,7 @@ pub function_here : (w : List ℕ) (name r : ℕ) {x : ℕ} → r < 256 → x �
 unfolding function_is
 function_here w name r h e = rw (lt-ltb r 256 h, e)
 
-pub finds_function : {count name : ℕ} {w : List ℕ} {r : Found} → First (function_is w name) count r → FindsFunction count name w r
+pub finds_function : {count name : ℕ} {w : List ℕ} {r : Rust.Option ℕ} → First (function_is w name) count r → FindsFunction count name w r
 unfolding function_in function_at first_named function_is
 finds_function {count} {name} {w} {r} f = record {
   below = first_below f;
@@ -91,9 +74,9 @@ finds_function {count} {name} {w} {r} f = record {
   earlier = λ fs h n le. pick fs (before n r) ∙ sym (row_before no_ident (λ i. eqb i.name name) fs n le h.counted (λ k l. let few = h.few in rw (lt-ltb k 256 (omega arith), (h.rows k l).name)) f);
 }
   where
-    pick : (fs : List (Ident Spot)) (r : Found) → function_in fs r ≡ elim r [ At i ↦ some (get_or fs i no_ident) | Nothing ↦ none ]
-    pick fs (At i) = refl
-    pick fs Nothing = refl
+    pick : (fs : List (Ident Spot)) (r : Rust.Option ℕ) → function_in fs r ≡ elim r [ Some i ↦ some (get_or fs i no_ident) | None ↦ none ]
+    pick fs (Some i) = refl
+    pick fs None = refl
 
 -- CONTAINERS
 
@@ -129,12 +112,12 @@ row_test {kind} {w} {s} name p structure h q f k l =
     rw (lt-ltb k 128 (omega arith), (h.rows k l).kind, (h.rows k l).name, q) (ap (λ (b : Bool). b && eqb c.identifier.name name) (f c))
 
 -- the identifier of the row that was found
-found_picked : (cs : List (Container Spot)) (r : Found) → found_in cs r ≡ mapped identifier_of (elim r [ At i ↦ some (get_or cs i no_container) | Nothing ↦ none ])
+found_picked : (cs : List (Container Spot)) (r : Rust.Option ℕ) → found_in cs r ≡ mapped identifier_of (elim r [ Some i ↦ some (get_or cs i no_container) | None ↦ none ])
 unfolding found_in at identifier_of
-found_picked cs (At i) = refl
-found_picked cs Nothing = refl
+found_picked cs (Some i) = refl
+found_picked cs None = refl
 
-pub finds_container : {count kind name : ℕ} {w : List ℕ} {r : Found} → First (row_is w kind name) count r → Finds count kind name w r
+pub finds_container : {count kind name : ℕ} {w : List ℕ} {r : Rust.Option ℕ} → First (row_is w kind name) count r → Finds count kind name w r
 unfolding found_in at first_named of_kind structures constants identifier_of
 finds_container {count} {kind} {name} {w} {r} f = record { below = first_below f; finds = λ s h structure q. go s h structure q; earlier = λ s h structure q n l. go_before s h structure q n l }
   where
@@ -164,7 +147,7 @@ pub constant_high : (w : List ℕ) (c r : ℕ) → 1668 ≤ length w → 128 ≤
 unfolding constant_in
 constant_high w c r l h = rw (le-leb 1668 (length w) l, le-ltb r 128 h)
 
-pub constant_other : (w : List ℕ) (c r : ℕ) {x : ℕ} → 1668 ≤ length w → r < 128 → x ≡ get_or w (384 + r) 0 → (x ≡ 0 → ⊥) → false ≡ constant_in w c r
+pub constant_other : (w : List ℕ) (c r : ℕ) {x : ℕ} → 1668 ≤ length w → r < 128 → x ≡ get_or w (384 + r) 0 → (x ≡ 0 → ⊥) → eqb x 0 ≡ constant_in w c r
 unfolding constant_in
 constant_other w c r l h e d = rw (le-leb 1668 (length w) l, lt-ltb r 128 h, ← e, ne_eqb _ 0 d)
 
@@ -186,7 +169,7 @@ constant_test {c} {w} {s} h l ci e k m =
     kind_zero true = refl
     kind_zero false = refl
 
-pub finds_constant : {count c : ℕ} {w : List ℕ} {r : Found} → First (constant_in w c) count r → FindsConstant count c w r
+pub finds_constant : {count c : ℕ} {w : List ℕ} {r : Rust.Option ℕ} → First (constant_in w c) count r → FindsConstant count c w r
 unfolding at constant_in_cycle constants identifier_of id_of
 finds_constant {count} {c} {w} {r} f = record {
   below = first_below f;
@@ -194,3 +177,7 @@ finds_constant {count} {c} {w} {r} f = record {
       ∙ sym (ap (mapped identifier_of) (row_first no_container (λ o. not o.is_structure && is_in (id_of o) (contained_ids_of ci.id s.containers)) s.containers h.counted (constant_test h l ci e) f))
       ∙ sym (first_kept (λ i. is_in i.id (contained_ids_of ci.id s.containers)) identifier_of (λ o. not o.is_structure) s.containers);
 }
+
+pub ruleset row = (row_high, row_other, row_here)
+
+pub ruleset is_constant_in_laws = (constant_short, constant_high, constant_other, constant_here)

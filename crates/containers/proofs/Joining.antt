@@ -117,3 +117,7 @@ module _ {c x : ℕ} {w w₁ w₂ w₃ w₄ : List ℕ} (o₁ : Removes 128 128 
 
   pub takes_not : {count : ℕ} {b d : Bool} {w₅ : List ℕ} → b ≡ member w c c → b ≡ false → d ≡ member w₄ c c → d ≡ false → HandsOn count c w₄ w₅ → TakesIn count c x w Fine w₅
   takes_not e f g k o = record { long = o.long ∙ joined_long; takes = λ long few h l. has_not (sym e ∙ f) (joined long (omega arith) (omega arith)) (sym g ∙ k) o }
+
+pub ruleset take_in_laws = (takes_had, takes_has, takes_not)
+
+pub ruleset hand_on_laws = (handing_start, handing_more, handing_done)

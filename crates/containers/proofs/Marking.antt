@@ -77,7 +77,7 @@ resolves_short h = record { is = λ e. absurd (omega arith) }
 pub resolves_high : {w : List ℕ} {r : ℕ} → 128 ≤ r → Resolves w r false
 resolves_high h = record { is = λ e l. absurd (omega arith) }
 
-pub resolves_deep : {w : List ℕ} {r x : ℕ} → x ≡ get_or w (512 + r) 0 → (x ≡ 0 → ⊥) → Resolves w r false
+pub resolves_deep : {w : List ℕ} {r x : ℕ} → x ≡ get_or w (512 + r) 0 → (x ≡ 0 → ⊥) → Resolves w r (eqb x 0)
 unfolding row_resolves
 resolves_deep e d = record { is = λ long l. rw (← e, ne_eqb _ 0 d) }
 
@@ -200,3 +200,9 @@ releases_is {count} {w} {ys} h o = record {
   only = back_only w ys h o.long;
   rows = λ e. subst (λ (v : List ℕ). ReleasesRows count (contained_in w) v) (sym (back_part w ys h o.long e)) o;
 }
+
+pub ruleset mark_laws = (marks_not, marks_short, marks_is)
+
+pub ruleset resolves_laws = (resolves_short, resolves_high, resolves_deep, resolves_is)
+
+pub ruleset release_rows_laws = (releasing_start, releasing_more, releasing_done)

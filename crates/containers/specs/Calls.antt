@@ -9,8 +9,8 @@ use Rattle.containers.specs.Table.{at, id_at, kind_of, contained_in, Holds}
 use Rattle.containers.specs.declared.containers.Declared.{Declared}
 use Rattle.containers.specs.declared.containers.Contained.{Contained}
 use Rattle.containers.specs.declared.containers.Contained.TheVariants.{Fine, Poisoned, Cyclical}
-use Rattle.containers.specs.declared.containers.Found.{Found}
-use Rattle.containers.specs.declared.containers.Found.TheVariants.{At, Nothing}
+use Rattle.std.specs.Prelude.{Some, None}
+use Rattle.std.specs.Prelude as Rust
 
 -- d has the numbers of the identifier i
 pub record Says (d : Declared) (i : Ident Spot) : Type 0 where
@@ -32,19 +32,19 @@ pub record Tells (row : ℕ) (w : List ℕ) (d : Declared) : Type 0 where
   pub tells : (s : Containment Spot) (count : ℕ) → Holds count w s → row < count → Says d (at s.containers row).identifier
 
 -- the first row below count that passes a test
-pub data First (test : ℕ → Bool) (count : ℕ) : Found → Type 0 where
-  here : (i : ℕ) → i < count → test i ≡ true → ((k : ℕ) → k < i → test k ≡ false) → First test count (At i)
-  nowhere : ((k : ℕ) → k < count → test k ≡ false) → First test count Nothing
+pub data First (test : ℕ → Bool) (count : ℕ) : Rust.Option ℕ → Type 0 where
+  here : (i : ℕ) → i < count → test i ≡ true → ((k : ℕ) → k < i → test k ≡ false) → First test count (Some i)
+  nowhere : ((k : ℕ) → k < count → test k ≡ false) → First test count None
 
 -- what was found, where it stands in one of the first n rows
-unfoldable pub before : (n : ℕ) → Found → Found
-before n (At i) = elim (ltb i n) [ true ↦ At i | false ↦ Nothing ]
-before n Nothing = Nothing
+unfoldable pub before : (n : ℕ) → Rust.Option ℕ → Rust.Option ℕ
+before n (Some i) = elim (ltb i n) [ true ↦ Some i | false ↦ None ]
+before n None = None
 
 -- the identifier of the row that was found
-unfoldable pub found_in : List (Container Spot) → Found → Option (Ident Spot)
-found_in cs (At i) = some (at cs i).identifier
-found_in cs Nothing = none
+unfoldable pub found_in : List (Container Spot) → Rust.Option ℕ → Option (Ident Spot)
+found_in cs (Some i) = some (at cs i).identifier
+found_in cs None = none
 
 -- the identifiers of the structures, or of the constants
 unfoldable pub of_kind : (structure : Bool) → List (Container Spot) → List (Ident Spot)
@@ -56,8 +56,8 @@ unfoldable pub row_is : (w : List ℕ) (kind name r : ℕ) → Bool
 row_is w kind name r = ltb r 128 && (eqb (get_or w (384 + r) 0) kind && eqb (get_or w (0 + r) 0) name)
 
 -- find_container: what the search through the structures, or the constants, finds
-pub record Finds (count kind name : ℕ) (w : List ℕ) (r : Found) : Type 0 where
-  pub below : (i : ℕ) → r ≡ At i → i < count
+pub record Finds (count kind name : ℕ) (w : List ℕ) (r : Rust.Option ℕ) : Type 0 where
+  pub below : (i : ℕ) → r ≡ Some i → i < count
   pub finds : (s : Containment Spot) → Holds count w s → (structure : Bool) → kind ≡ kind_of structure → found_in s.containers r ≡ first_named name (of_kind structure s.containers)
   pub earlier : (s : Containment Spot) → Holds count w s → (structure : Bool) → kind ≡ kind_of structure → (n : ℕ) → n ≤ count → found_in s.containers (before n r) ≡ first_named name (of_kind structure (take n s.containers))
 
@@ -82,6 +82,6 @@ unfoldable pub constant_in : (w : List ℕ) (c r : ℕ) → Bool
 constant_in w c r = leb 1668 (length w) && (ltb r 128 && (eqb (get_or w (384 + r) 0) 0 && member (contained_in w) c r))
 
 -- constant_in_cycle: the first constant in the set of the container in row c
-pub record FindsConstant (count c : ℕ) (w : List ℕ) (r : Found) : Type 0 where
-  pub below : (i : ℕ) → r ≡ At i → i < count
+pub record FindsConstant (count c : ℕ) (w : List ℕ) (r : Rust.Option ℕ) : Type 0 where
+  pub below : (i : ℕ) → r ≡ Some i → i < count
   pub finds : (s : Containment Spot) → Holds count w s → c < count → (ci : Ident Spot) → ci.id ≡ id_at s.containers c → found_in s.containers r ≡ constant_in_cycle (contained_ids_of ci.id s.containers) s.containers

@@ -6,8 +6,8 @@ use Rattle.penne.specs.Find.{first_named}
 use Rattle.containers.specs.Table.{no_ident}
 use Rattle.containers.specs.Calls.{Says, before}
 use Rattle.containers.specs.declared.containers.Declared.{Declared}
-use Rattle.containers.specs.declared.containers.Found.{Found}
-use Rattle.containers.specs.declared.containers.Found.TheVariants.{At, Nothing}
+use Rattle.std.specs.Prelude.{Some, None}
+use Rattle.std.specs.Prelude as Rust
 
 -- the words of row r, a column for each field, are those of the function i
 pub record IsFunction (w : List ℕ) (r : ℕ) (i : Ident Spot) : Type 0 where
@@ -36,16 +36,16 @@ pub record TellsFunction (row : ℕ) (w : List ℕ) (d : Declared) : Type 0 wher
   pub tells : (fs : List (Ident Spot)) (count : ℕ) → HoldsFunctions count w fs → row < count → Says d (function_at fs row)
 
 -- the function of the row that was found
-unfoldable pub function_in : List (Ident Spot) → Found → Option (Ident Spot)
-function_in fs (At i) = some (function_at fs i)
-function_in fs Nothing = none
+unfoldable pub function_in : List (Ident Spot) → Rust.Option ℕ → Option (Ident Spot)
+function_in fs (Some i) = some (function_at fs i)
+function_in fs None = none
 
 -- row r has this name
 unfoldable pub function_is : (w : List ℕ) (name r : ℕ) → Bool
 function_is w name r = ltb r 256 && eqb (get_or w (0 + r) 0) name
 
 -- find_function: what the search through function_list finds
-pub record FindsFunction (count name : ℕ) (w : List ℕ) (r : Found) : Type 0 where
-  pub below : (i : ℕ) → r ≡ At i → i < count
+pub record FindsFunction (count name : ℕ) (w : List ℕ) (r : Rust.Option ℕ) : Type 0 where
+  pub below : (i : ℕ) → r ≡ Some i → i < count
   pub finds : (fs : List (Ident Spot)) → HoldsFunctions count w fs → function_in fs r ≡ first_named name fs
   pub earlier : (fs : List (Ident Spot)) → HoldsFunctions count w fs → (n : ℕ) → n ≤ count → function_in fs (before n r) ≡ first_named name (take n fs)

@@ -10,13 +10,6 @@ use memory::layout::{
 use memory::rows::{add, has, join, remove};
 use memory::words::{set_word, word};
 
-// Which row.
-#[derive(Clone, Copy)]
-pub enum Found {
-    At(usize),
-    Nothing,
-}
-
 // An identifier that is predeclared: its name, its place, its id.
 #[derive(Clone, Copy)]
 pub struct Declared {
@@ -24,6 +17,12 @@ pub struct Declared {
     pub place: u32,
     pub id: u32,
 }
+
+pub(crate) const NONE_DECLARED: Declared = Declared {
+    name: 0,
+    place: 0,
+    id: 0,
+};
 
 // What becomes of an edge.
 #[derive(Clone, Copy)]
@@ -34,6 +33,7 @@ pub enum Contained {
 }
 
 // A constant (kind 0) or a structure (kind 3), as declare_constant and declare_struct push it.
+#[tactic(auto, using(crate::proofs::Pushing::pushes_none, crate::proofs::Pushing::pushes_is))]
 pub fn push_container(table: &mut [u32], row: usize, kind: u32, declared: Declared)
     ensures { Pushes row kind declared table.old table.new }
 {
@@ -47,15 +47,12 @@ pub fn push_container(table: &mut [u32], row: usize, kind: u32, declared: Declar
     set_word(table, CONTAINER_DEPTH + row, 0);
 }
 
+#[tactic(auto, using(crate::proofs::Pushing::tells_none, crate::proofs::Pushing::tells_is))]
 pub fn container(table: &[u32], row: usize) -> Declared
     ensures { Tells row table.now result }
 {
     if 128 <= row {
-        return Declared {
-            name: 0,
-            place: 0,
-            id: 0,
-        };
+        return NONE_DECLARED;
     }
     Declared {
         name: word(table, CONTAINER_NAME + row),
@@ -65,29 +62,19 @@ pub fn container(table: &[u32], row: usize) -> Declared
 }
 
 // The first of that kind and name among so many.
-pub fn find_container(table: &[u32], count: usize, kind: u32, name: u32) -> Found
+pub fn find_container(table: &[u32], count: usize, kind: u32, name: u32) -> Option<usize>
     ensures { Finds count kind name table.now result }
 {
-    let mut row = 0;
-    while row < count {
-        if is_named(table, row, kind, name) {
-            return Found::At(row);
-        }
-        row += 1;
-    }
-    Found::Nothing
+    (0..count).find(|&row| is_named(table, row, kind, name))
 }
 
+#[tactic(auto, using(crate::proofs::Finding::row))]
 fn is_named(table: &[u32], row: usize, kind: u32, name: u32) -> bool
     ensures { result ≡ row_is table.now kind name row }
 {
-    if 128 <= row {
-        return false;
-    }
-    if word(table, CONTAINER_KIND + row) != kind {
-        return false;
-    }
-    word(table, CONTAINER_NAME + row) == name
+    row < 128
+        && word(table, CONTAINER_KIND + row) == kind
+        && word(table, CONTAINER_NAME + row) == name
 }
 
 // The container takes in the containee and all that it contains, and so do all that contain the container.
@@ -111,6 +98,7 @@ pub fn found_container_1(
     )
 }
 
+#[tactic(auto, using(crate::proofs::Joining::take_in_laws))]
 fn take_in(rows: &mut [u32], count: usize, container: usize, containee: usize) -> Contained
     ensures { TakesIn count container containee rows.old result rows.new }
 {
@@ -129,50 +117,37 @@ fn take_in(rows: &mut [u32], count: usize, container: usize, containee: usize) -
 }
 
 // All that contain the container take in what the spare row has.
+#[tactic(auto, using(crate::proofs::Joining::hand_on_laws))]
 fn hand_on(rows: &mut [u32], count: usize, container: usize)
     ensures { HandsOn count container rows.old rows.new }
 {
-    let mut row = 0;
-    while row < count {
+    for row in 0..count {
         hand_to(rows, row, container);
-        row += 1;
     }
 }
 
+#[tactic(auto, using(crate::proofs::Joining::hands_to_none, crate::proofs::Joining::hands_to_all))]
 fn hand_to(rows: &mut [u32], row: usize, container: usize)
     ensures { HandsTo row container rows.old rows.new }
 {
-    if !has(rows, row, container) {
-        return;
+    if has(rows, row, container) {
+        join(rows, SPARE, row);
     }
-    join(rows, SPARE, row);
 }
 
 // "the first constant, in predeclaration order, in the container's set"
-pub fn constant_in_cycle(table: &[u32], count: usize, container: usize) -> Found
+pub fn constant_in_cycle(table: &[u32], count: usize, container: usize) -> Option<usize>
     ensures { FindsConstant count container table.now result }
 {
-    let mut row = 0;
-    while row < count {
-        if is_constant_in(table, container, row) {
-            return Found::At(row);
-        }
-        row += 1;
-    }
-    Found::Nothing
+    (0..count).find(|&row| is_constant_in(table, container, row))
 }
 
+#[tactic(auto, using(crate::proofs::Finding::is_constant_in_laws), unfolding(crate::specs::Table::contained_in))]
 fn is_constant_in(table: &[u32], container: usize, row: usize) -> bool
     ensures { result ≡ constant_in table.now container row }
 {
-    if table.len() < CONTAINERS_WORDS {
+    if table.len() < CONTAINERS_WORDS || 128 <= row {
         return false;
     }
-    if 128 <= row {
-        return false;
-    }
-    if word(table, CONTAINER_KIND + row) != 0 {
-        return false;
-    }
-    has(&table[CONTAINED..CONTAINED_END], container, row)
+    word(table, CONTAINER_KIND + row) == 0 && has(&table[CONTAINED..CONTAINED_END], container, row)
 }

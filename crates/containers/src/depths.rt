@@ -17,12 +17,10 @@ pub fn determine_container_depths(table: &mut [u32], count: usize)
 fn rounds(table: &mut [u32], count: usize)
     ensures { Rounds count table.old table.new }
 {
-    let mut d = 0;
-    while d < count {
+    for d in 0..count {
         if !round(table, count, d) {
             return;
         }
-        d += 1;
     }
 }
 
@@ -40,6 +38,7 @@ fn round(table: &mut [u32], count: usize, d: usize) -> bool
     true
 }
 
+#[tactic(auto, using(crate::proofs::Marking::clears_short, crate::proofs::Marking::clears_is))]
 fn clear_marks(table: &mut [u32])
     ensures { Clears table.old table.new }
 {
@@ -52,83 +51,63 @@ fn clear_marks(table: &mut [u32])
 fn mark_all(table: &mut [u32], count: usize)
     ensures { MarksAll count table.old table.new }
 {
-    let mut row = 0;
-    while row < count {
+    for row in 0..count {
         mark(table, row);
-        row += 1;
     }
 }
 
 // Is it one that the round resolves?
+#[tactic(auto, using(crate::proofs::Marking::mark_laws))]
 fn mark(table: &mut [u32], row: usize)
     ensures { Marks row table.old table.new }
 {
-    if !resolves(table, row) {
-        return;
-    }
-    if table.len() < CONTAINERS_WORDS {
+    if !resolves(table, row) || table.len() < CONTAINERS_WORDS {
         return;
     }
     add(&mut table[CONTAINED..CONTAINED_END], SPARE, row);
 }
 
+#[tactic(auto, using(crate::proofs::Marking::resolves_laws))]
 fn resolves(table: &[u32], row: usize) -> bool
     ensures { Resolves table.now row result }
 {
-    if table.len() < CONTAINERS_WORDS {
+    if table.len() < CONTAINERS_WORDS || 128 <= row {
         return false;
     }
-    if 128 <= row {
-        return false;
-    }
-    if word(table, CONTAINER_DEPTH + row) != 0 {
-        return false;
-    }
-    is_empty(&table[CONTAINED..CONTAINED_END], row)
+    word(table, CONTAINER_DEPTH + row) == 0 && is_empty(&table[CONTAINED..CONTAINED_END], row)
 }
 
+#[tactic(auto, using(crate::proofs::Marking::none_short, crate::proofs::Marking::none_is))]
 fn none_marked(table: &[u32]) -> bool
     ensures { NoneMarked table.now result }
 {
-    if table.len() < CONTAINERS_WORDS {
-        return true;
-    }
-    is_empty(&table[CONTAINED..CONTAINED_END], SPARE)
+    table.len() < CONTAINERS_WORDS || is_empty(&table[CONTAINED..CONTAINED_END], SPARE)
 }
 
 // What is marked has depth d.
 fn deepen_all(table: &mut [u32], count: usize, d: usize)
     ensures { DeepensMarked count d table.old table.new }
 {
-    let mut row = 0;
-    while row < count {
+    for row in 0..count {
         deepen(table, row, d);
-        row += 1;
     }
 }
 
+#[tactic(auto, using(crate::proofs::Deepening::deepen_laws))]
 fn deepen(table: &mut [u32], row: usize, d: usize)
     ensures { DeepensIfMarked row d table.old table.new }
 {
-    if 128 <= row {
-        return;
-    }
-    if 128 <= d {
-        return;
-    }
-    if !is_marked(table, row) {
+    if 128 <= row || 128 <= d || !is_marked(table, row) {
         return;
     }
     set_word(table, CONTAINER_DEPTH + row, (d + 2) as u32);
 }
 
+#[tactic(auto, using(crate::proofs::Marking::marked_short, crate::proofs::Marking::marked_is))]
 fn is_marked(table: &[u32], row: usize) -> bool
     ensures { IsMarked table.now row result }
 {
-    if table.len() < CONTAINERS_WORDS {
-        return false;
-    }
-    has(&table[CONTAINED..CONTAINED_END], SPARE, row)
+    CONTAINERS_WORDS <= table.len() && has(&table[CONTAINED..CONTAINED_END], SPARE, row)
 }
 
 // Nothing contains what is marked any more.
@@ -141,39 +120,35 @@ fn release(table: &mut [u32], count: usize)
     release_rows(&mut table[CONTAINED..CONTAINED_END], count);
 }
 
+#[tactic(auto, using(crate::proofs::Marking::release_rows_laws))]
 fn release_rows(rows: &mut [u32], count: usize)
     ensures { ReleasesRows count rows.old rows.new }
 {
-    let mut row = 0;
-    while row < count {
+    for row in 0..count {
         remove(rows, row, SPARE);
-        row += 1;
     }
 }
 
 fn poison_the_rest(table: &mut [u32], count: usize)
     ensures { PoisonsRest count table.old table.new }
 {
-    let mut row = 0;
-    while row < count {
+    for row in 0..count {
         or_poisoned(table, row);
-        row += 1;
     }
 }
 
+#[tactic(auto, using(crate::proofs::Deepening::or_poisoned_laws))]
 fn or_poisoned(table: &mut [u32], row: usize)
     ensures { PoisonsRow row table.old table.new }
 {
-    if 128 <= row {
-        return;
-    }
-    if word(table, CONTAINER_DEPTH + row) != 0 {
+    if 128 <= row || word(table, CONTAINER_DEPTH + row) != 0 {
         return;
     }
     set_word(table, CONTAINER_DEPTH + row, 1);
 }
 
 // A depth as the tree numbers it: 1 poisoned, 2 + d.
+#[tactic(auto, using(crate::proofs::Rounding::depth_high, crate::proofs::Rounding::depth_is))]
 pub fn container_depth(table: &[u32], row: usize) -> u32
     ensures { TellsDepth row table.now result }
 {

@@ -2,10 +2,11 @@
 ghost use Rattle.std.specs.Prelude.{◌≡◌};
 ghost use Rattle.containers.specs.Functions.{PushesFunction, TellsFunction, function_is, FindsFunction};
 
-use super::containers::{Declared, Found};
+use super::containers::{Declared, NONE_DECLARED};
 use memory::layout::{FUNCTION_ID, FUNCTION_NAME, FUNCTION_PLACE};
 use memory::words::{set_word, word};
 
+#[tactic(auto, using(crate::proofs::Pushing::function_pushes_none, crate::proofs::Pushing::function_pushes))]
 pub fn push_function(table: &mut [u32], row: usize, declared: Declared)
     ensures { PushesFunction row declared table.old table.new }
 {
@@ -17,15 +18,12 @@ pub fn push_function(table: &mut [u32], row: usize, declared: Declared)
     set_word(table, FUNCTION_ID + row, declared.id);
 }
 
+#[tactic(auto, using(crate::proofs::Pushing::function_tells_none, crate::proofs::Pushing::function_tells))]
 pub fn function(table: &[u32], row: usize) -> Declared
     ensures { TellsFunction row table.now result }
 {
     if 256 <= row {
-        return Declared {
-            name: 0,
-            place: 0,
-            id: 0,
-        };
+        return NONE_DECLARED;
     }
     Declared {
         name: word(table, FUNCTION_NAME + row),
@@ -35,24 +33,15 @@ pub fn function(table: &[u32], row: usize) -> Declared
 }
 
 // The first of that name among so many.
-pub fn find_function(table: &[u32], count: usize, name: u32) -> Found
+pub fn find_function(table: &[u32], count: usize, name: u32) -> Option<usize>
     ensures { FindsFunction count name table.now result }
 {
-    let mut row = 0;
-    while row < count {
-        if is_named(table, row, name) {
-            return Found::At(row);
-        }
-        row += 1;
-    }
-    Found::Nothing
+    (0..count).find(|&row| is_named(table, row, name))
 }
 
+#[tactic(auto, using(crate::proofs::Finding::function_high, crate::proofs::Finding::function_here))]
 fn is_named(table: &[u32], row: usize, name: u32) -> bool
     ensures { result ≡ function_is table.now name row }
 {
-    if 256 <= row {
-        return false;
-    }
-    word(table, FUNCTION_NAME + row) == name
+    row < 256 && word(table, FUNCTION_NAME + row) == name
 }

@@ -7,17 +7,16 @@ use native.Mathlib.Omega.{arith}
 use lib.Dec.{ltb}
 use lib.ListN.{get_or}
 use borrow.Author.Tests.{ltb-true}
+use Rattle.std.specs.Prelude.{Result, Ok, Err}
+use Rattle.fields.specs.declared.refusal.Refusal.{Refusal}
 use Rattle.penne.specs.Reader.{Counts, Cur, got, num, below, plus, nothing, counted}
 use Rattle.penne.specs.Tree.{Spot, Decl}
 use Rattle.penne.specs.Read.{decl_of, decl_kinds, k_bad_decl, decl_counts, decl_head, read_decl, read_constant, read_function, read_function_head, read_structure}
 use Rattle.penne.specs.Write.{num_b, place_b}
 use Rattle.penne.proofs.IdsPass.{still_decl}
-use Rattle.fields.specs.declared.number.Read.TheVariants.{Number}
 use Rattle.fields.specs.declared.counts.Counts as K
-use Rattle.fields.specs.declared.counts.Passed.{Passed}
-use Rattle.fields.specs.declared.counts.Passed.TheVariants as Q
 use Rattle.fields.specs.declared.field.Identifier.{Identifier}
-use Rattle.fields.specs.Answers.{cursor, counts_of, number_of, passed_of, Gives, Passes}
+use Rattle.fields.specs.Answers.{cursor, counts_of, passed_of, Gives, Passes}
 use Rattle.tree.proofs.Statements as T
 use Rattle.answer.specs.declared.wrote.Wrote.{Wrote}
 use Rattle.answer.specs.Out.{Put}
@@ -25,11 +24,11 @@ use Rattle.answer.specs.Parts.{renumbered}
 use Rattle.answer.proofs.Chain.{◌▸◌}
 use Rattle.containers.proofs.Lists.{and_true}
 use Rattle.label_references.specs.Marked.{marked_decl}
-use Rattle.label_references.proofs.Leading.{passes_here}
 use Rattle.walk.specs.declared.state.Walk.{Walk}
 use Rattle.walk.specs.declared.fault.Fault.{Fault}
 use Rattle.walk.specs.Walking.{here, Moves, Writes, Counted, Ground, Good, Marks, Leads, Walks, fault_b, made_b}
-use Rattle.walk.proofs.Leading.{walks, such_got, unend_go, leads_refused, leads_counting}
+use Rattle.fields.proofs.Back.{forget_refused}
+use Rattle.walk.proofs.Leading.{walks, such_got, leads_refused, leads_counting}
 use Rattle.walk.proofs.Writing.{here_moved, here_after, moved, wrote}
 use Rattle.walk.proofs.Writing as W
 use Rattle.stages.specs.declared.heads.Start.{Start}
@@ -38,12 +37,13 @@ use Rattle.stages.specs.Heads.{Begins, own}
 use Rattle.declaration_parts.specs.Heading.{Heading, drop_walk, constant_parts, function_parts, head_parts, structure_parts, Starts}
 use Rattle.stages.proofs.Parting.{four_kinds, leads_two, leads_one}
 use Rattle.stages.proofs.Sizing.{Passing, passing}
+use Rattle.stages.proofs.Predeclaring.{passed_to}
 
 -- BY ITS KIND
 
-pub below_low : {t : List ℕ} {at v n k : ℕ} → Gives (below k) t at (Number v n) → v < k
-unfolding number_of below
-below_low {t} {at} {v} {n} {k} g = ltb-true v k (such_got num (λ x _. ltb x k) 5 t (cursor at 0 nothing) (sym (g.is 0 nothing))).1
+pub below_low : {t : List ℕ} {at v n k : ℕ} → Gives (below k) t at (Ok (v, n)) → v < k
+unfolding below
+below_low {t} {at} {v} {n} {k} g = ltb-true v k (such_got num (λ x _. ltb x k) 5 t (cursor at 0 nothing) (g.is 0 nothing)).1
 
 -- what is counted behind the kind
 abbrev pub after : Walk → ℕ → Counts
@@ -56,7 +56,7 @@ module _ {t : List ℕ} {s : Walk} {kind : ℕ} {h : Start} (hd : Heading t s ki
       → (kind ≡ 3 → (p : Spot) → renumbered t h.places h.from ≡ place_b p → Leads (structure_parts h.flags p (own h)) t (cursor h.parts s.script.names (after s kind)) P)
       → Leads read_decl t (here s) P
   unfolding read_decl decl_head counted decl_of decl_kinds read_constant read_function read_function_head read_structure constant_parts function_parts head_parts structure_parts
-  leads_decl f₀ f₁ f₂ f₃ = leads_counting decl_counts decl_head (decl_of 63) (T.kind_value _ 6 hd.kinds (counts_of s.counts) refl) λ fit.
+  leads_decl f₀ f₁ f₂ f₃ = leads_counting decl_counts decl_head (decl_of 63) (T.kind_value _ 6 hd.kinds (counts_of s.counts)) λ fit.
       four_kinds (λ j. kind ≡ j → Begins t s.script.names hd.at j h → Leads (decl_of 63 (get_or decl_kinds j k_bad_decl)) t (cursor hd.at s.script.names (after s kind)) P) kind (below_low hd.kinds) hd.begins.not_import hd.begins.not_poison
       (λ e b. leads_two b (λ f p q i. constant_parts f p q i) (λ z. absurd (omega arith)) (f₀ e)) (λ e b. leads_two b (λ f p q i. function_parts f p q i) (λ z. absurd (omega arith)) (f₁ e))
       (λ e b. leads_two b (λ f p q i. head_parts f p q i) (λ z. absurd (omega arith)) (f₂ e)) (λ e b. leads_one b (λ f p i. structure_parts f p i) refl (f₃ e)) refl hd.begins
@@ -79,16 +79,15 @@ started_is {h = h} p₁ p₂ p₃ p₄ wr mv = record {
 
 -- DROPPED
 
-module _ (f : Fault) {t : List ℕ} {s : Walk} {p : Passed} (g : Passes read_decl t s.script.names s.counts s.at p) {o l w : List ℕ} where
-  pub drop_unread : {i at : ℕ} {r : Walk} {o' : List ℕ} → p ≡ Q.Refused i at → Walks t read_decl (drop_walk f) s o l w r o' l w
-  unfolding passed_of
-  drop_unread e = walks λ h a i. leads_refused (unend_go _ (sym (ap (passed_of s.script.names) e) ∙ g.is))
+module _ (f : Fault) {t : List ℕ} {s : Walk} {p : Result (ℕ × K.Counts) Refusal} (g : Passes read_decl t s.script.names s.counts s.at p) {o l w : List ℕ} where
+  pub drop_unread : {x : Refusal} {r : Walk} {o' : List ℕ} → p ≡ Err x → Walks t read_decl (drop_walk f) s o l w r o' l w
+  drop_unread e = walks λ h a i. leads_refused (forget_refused _ _ _ (g.is ∙ ap (passed_of s.script.names) e))
 
-  pub drop_passed : {n : ℕ} {k : K.Counts} {x : Wrote} {o' : List ℕ} {s₁ s₂ r : Walk} → p ≡ Q.To n k → Put s.wrote (num_b 5 ++ fault_b f) o x o' → Writes s x s₁ → Counted s₁ k s₂ → Moves s₂ n r → Walks t read_decl (drop_walk f) s o l w r o' l w
+  pub drop_passed : {n : ℕ} {k : K.Counts} {x : Wrote} {o' : List ℕ} {s₁ s₂ r : Walk} → p ≡ Ok (n, k) → Put s.wrote (num_b 5 ++ fault_b f) o x o' → Writes s x s₁ → Counted s₁ k s₂ → Moves s₂ n r → Walks t read_decl (drop_walk f) s o l w r o' l w
   unfolding drop_walk behind
   drop_passed {n} {k} {s₁ = s₁} e put wr co mv = walks λ h a i. record {
     to = λ d c q.
-        let c₁ : cursor n s.script.names (counts_of k) ≡ c = passes_here g e q in
+        let c₁ : cursor n s.script.names (counts_of k) ≡ c = sym (passed_to _ (g.is ∙ ap (passed_of s.script.names) e) q) in
         let z : Passing (here s) (cursor n s.script.names (counts_of k)) d = passing t (here s) (q ∙ ap (got d) (sym c₁)) in
         let all = a.rest.labels in
         let os = a.rest.words in

@@ -6,6 +6,7 @@ use mathlib.Core.Option.{Option, none, some}
 use Prim.Native.Nat.{ℕ, ◌+◌, ◌<◌}
 use native.Mathlib.Omega.{arith}
 use lib.ListN.{length, take}
+use Rattle.std.specs.Prelude.{None}
 use Rattle.penne.specs.Tree.{Spot, Ident, Maybe, Ty, expr, Expr, Decl, constant}
 use Rattle.penne.specs.Read.{maybe, read, read_ty}
 use Rattle.penne.specs.Write.{num_b, place_b, ident_b, node_b, maybe_b, ty_b, decl_b}
@@ -62,7 +63,7 @@ own_bytes h auth id = refl
 
 pub constant_arm : {t : List ℕ} {h : Start} (p q : Spot) {row : ℕ} {j : Declared} {i' : Identifier} {s s₁ s₂ s₃ s₄ r : Walk} {o o₁ o₂ o₃ l l₂ w w₂ w₃ : List ℕ} → renumbered t h.places h.from ≡ place_b p ++ place_b q → ContainerAt row w j → i' ≡ resolved_to h.identifier j.id 1
     → Starts t 0 h.flags h i' s o s₁ o₁ → Constexpr s₁ (row + 1) s₂ → Walks t (read 63 expr) (onward analyze_node node_b) s₂ o₁ l w s₃ o₂ l₂ w₂ → Constexpr s₃ 0 s₄
-    → Contains t (maybe (read_ty 63 true)) (record { row = row; is_member = false; member = 0 }) s₄ o₂ l₂ w₂ r o₃ l₂ w₃ → Arm (NewContainer false row (own h)) (begun_container (own h)) t (constant_parts h.flags p q (own h)) h.parts s o l w r o₃ l₂ w₃
+    → Contains t (maybe (read_ty 63 true)) (record { row = row; member = None }) s₄ o₂ l₂ w₂ r o₃ l₂ w₃ → Arm (NewContainer false row (own h)) (begun_container (own h)) t (constant_parts h.flags p q (own h)) h.parts s o l w r o₃ l₂ w₃
 unfolding constant_parts begun_container counting fit_decl in_constexpr_of with_containment id_at id_of
 constant_arm {t} {h} p q {row} {j} {i'} {s} {s₁} e ca rs st c₁ ex c₂ ct = record {
   does = λ inp a new i.

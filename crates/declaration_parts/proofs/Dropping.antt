@@ -2,12 +2,13 @@
 use mathlib.Core.Path.{◌≡◌, refl, sym, ap, subst, ◌∙◌}
 use mathlib.Core.Bool.{Bool, true, false}
 use mathlib.Core.List.{List, [], ◌∷◌, ◌++◌}
-use mathlib.Core.Option.{Option, none, some}
+use mathlib.Core.Option as M
 use Prim.Native.Nat.{ℕ, ◌<◌}
 use native.Mathlib.Omega.{arith}
 use lib.Dec.{ltb}
 use lib.ListN.{length, get_or, take}
 use borrow.Author.Tests.{ltb-true}
+use Rattle.std.specs.Prelude.{Option, Some, None}
 use Rattle.penne.specs.Tree.{Spot, Ident, Poison, poison, Maybe, Ty, Expr, Param, Body, Decl, constant, function, function_head, structure, bad_decl}
 use Rattle.penne.specs.Read.{read_decl, poison_fields}
 use Rattle.penne.specs.Write.{num_b, poison_b, decl_b}
@@ -28,8 +29,6 @@ use Rattle.walk.specs.Walking.{here, Rest, Ground, Good, Is, Leads, Walks, fault
 use Rattle.walk.proofs.Leading.{walks, leads_bind, leads_got, is_same}
 use Rattle.walk.proofs.Faults.{duplicate_bytes}
 use Rattle.stages.specs.declared.heads.Start.{Start}
-use Rattle.stages.specs.declared.before.Before.{Before}
-use Rattle.stages.specs.declared.before.Before.TheVariants as B
 use Rattle.declaration_parts.specs.Declaring.{clear, fit_container, fit_function, fit_decl, predeclared_by, behind, decl_walk}
 use Rattle.stages.specs.Heads.{own}
 use Rattle.stages.specs.Before.{Refers, declared, undeclared, ContainerBefore, FunctionBefore, DeclaredBefore}
@@ -38,16 +37,16 @@ use Rattle.declaration_parts.proofs.Arms.{leads_decl, good_decl}
 
 -- WHAT WAS TOLD
 
-told_yes : {k : ℕ} {i : Identifier} {b : Before} {x : Option (Ident Spot)} {f : Fault} → Refers k i b x → b ≡ B.Yes f → (j : Ident Spot) × (x ≡ some j) × (f ≡ duplicate_fault k i j.place.number)
+told_yes : {k : ℕ} {i : Identifier} {b : Option Fault} {x : M.Option (Ident Spot)} {f : Fault} → Refers k i b x → b ≡ Some f → (j : Ident Spot) × (x ≡ M.some j) × (f ≡ duplicate_fault k i j.place.number)
 told_yes {f = f} (declared {f = g} {j = j} q) e = let d : g ≡ f = cc in (j, refl, sym d ∙ q)
 told_yes undeclared e = absurd (let z : ◌≡◌ {A = ℕ} 0 1 = cc in omega arith)
 
-pub told_no : {k : ℕ} {i : Identifier} {b : Before} {x : Option (Ident Spot)} → Refers k i b x → b ≡ B.No → x ≡ none
+pub told_no : {k : ℕ} {i : Identifier} {b : Option Fault} {x : M.Option (Ident Spot)} → Refers k i b x → b ≡ None → x ≡ M.none
 told_no (declared q) e = absurd (let z : ◌≡◌ {A = ℕ} 0 1 = cc in omega arith)
 told_no undeclared e = refl
 
 -- of the rows that the ground says are walked
-module _ {s : Walk} {o l w : List ℕ} {a : Ground} (i : Is s o l w a) (good : Good a) {n : Identifier} {b : Before} where
+module _ {s : Walk} {o l w : List ℕ} {a : Ground} (i : Is s o l w a) (good : Good a) {n : Identifier} {b : Option Fault} where
   pub refers_container : {pk : ℕ} (x : Ident Spot) (k : Bool) → ContainerBefore (kind_of k) pk s n w b → fit_container a.st.containment.containers a.rest.containers x ≡ true
       → Refers pk n b (first_named n.name (of_kind k (take a.rest.containers a.st.containment.containers)))
   unfolding fit_container
@@ -78,21 +77,21 @@ kind_fields : (1 ≡ get_or poison_names 3 0) × (2 ≡ get_or poison_places 3 0
 unfolding poison_names poison_places poison_fields
 kind_fields = (refl, refl, refl, refl, refl, refl)
 
-pre_constant : (a : Analyzer Spot) (r n f : ℕ) (p q : Spot) (i : Ident Spot) (x : Expr Spot) (t : Maybe Spot (Ty Spot)) (j : Ident Spot) → first_named i.name (of_kind false (take r a.containment.containers)) ≡ some j → predeclared_by a r n (constant f p q i x t) ≡ bad_decl (duplicated 3 i j)
+pre_constant : (a : Analyzer Spot) (r n f : ℕ) (p q : Spot) (i : Ident Spot) (x : Expr Spot) (t : Maybe Spot (Ty Spot)) (j : Ident Spot) → first_named i.name (of_kind false (take r a.containment.containers)) ≡ M.some j → predeclared_by a r n (constant f p q i x t) ≡ bad_decl (duplicated 3 i j)
 unfolding predeclared_by declared_as unless_duplicate resolved duplicated of_kind
-pre_constant a r n f p q i x t j e = ap (λ (o : Option (Ident Spot)). declared_as (λ i'. constant f p q i' x t) (unless_duplicate 3 (resolved i (id_at a.containment.containers r) 1) o)) e
+pre_constant a r n f p q i x t j e = ap (λ (o : M.Option (Ident Spot)). declared_as (λ i'. constant f p q i' x t) (unless_duplicate 3 (resolved i (id_at a.containment.containers r) 1) o)) e
 
-pre_structure : (a : Analyzer Spot) (r n f : ℕ) (p : Spot) (i : Ident Spot) (ms : List (Param Spot)) (t : Maybe Spot (Ty Spot)) (j : Ident Spot) → first_named i.name (of_kind true (take r a.containment.containers)) ≡ some j → predeclared_by a r n (structure f p i ms t) ≡ bad_decl (duplicated 8 i j)
+pre_structure : (a : Analyzer Spot) (r n f : ℕ) (p : Spot) (i : Ident Spot) (ms : List (Param Spot)) (t : Maybe Spot (Ty Spot)) (j : Ident Spot) → first_named i.name (of_kind true (take r a.containment.containers)) ≡ M.some j → predeclared_by a r n (structure f p i ms t) ≡ bad_decl (duplicated 8 i j)
 unfolding predeclared_by declared_as unless_duplicate resolved duplicated of_kind
-pre_structure a r n f p i ms t j e = ap (λ (o : Option (Ident Spot)). declared_as (λ i'. structure f p i' ms t) (unless_duplicate 8 (resolved i (id_at a.containment.containers r) 1) o)) e
+pre_structure a r n f p i ms t j e = ap (λ (o : M.Option (Ident Spot)). declared_as (λ i'. structure f p i' ms t) (unless_duplicate 8 (resolved i (id_at a.containment.containers r) 1) o)) e
 
-pre_function : (a : Analyzer Spot) (r n f : ℕ) (p q : Spot) (i : Ident Spot) (ps : List (Param Spot)) (b : Maybe Spot (Body Spot)) (t : Maybe Spot (Ty Spot)) (j : Ident Spot) → first_named i.name (take n a.function_list) ≡ some j → predeclared_by a r n (function f p q i ps b t) ≡ bad_decl (duplicated 7 i j)
+pre_function : (a : Analyzer Spot) (r n f : ℕ) (p q : Spot) (i : Ident Spot) (ps : List (Param Spot)) (b : Maybe Spot (Body Spot)) (t : Maybe Spot (Ty Spot)) (j : Ident Spot) → first_named i.name (take n a.function_list) ≡ M.some j → predeclared_by a r n (function f p q i ps b t) ≡ bad_decl (duplicated 7 i j)
 unfolding predeclared_by declared_as unless_duplicate resolved duplicated
-pre_function a r n f p q i ps b t j e = ap (λ (o : Option (Ident Spot)). declared_as (λ i'. function f p q i' ps b t) (unless_duplicate 7 (resolved i (function_at a.function_list n).id 1) o)) e
+pre_function a r n f p q i ps b t j e = ap (λ (o : M.Option (Ident Spot)). declared_as (λ i'. function f p q i' ps b t) (unless_duplicate 7 (resolved i (function_at a.function_list n).id 1) o)) e
 
-pre_head : (a : Analyzer Spot) (r n f : ℕ) (p q : Spot) (i : Ident Spot) (ps : List (Param Spot)) (t : Maybe Spot (Ty Spot)) (j : Ident Spot) → first_named i.name (take n a.function_list) ≡ some j → predeclared_by a r n (function_head f p q i ps t) ≡ bad_decl (duplicated 7 i j)
+pre_head : (a : Analyzer Spot) (r n f : ℕ) (p q : Spot) (i : Ident Spot) (ps : List (Param Spot)) (t : Maybe Spot (Ty Spot)) (j : Ident Spot) → first_named i.name (take n a.function_list) ≡ M.some j → predeclared_by a r n (function_head f p q i ps t) ≡ bad_decl (duplicated 7 i j)
 unfolding predeclared_by declared_as unless_duplicate resolved duplicated
-pre_head a r n f p q i ps t j e = ap (λ (o : Option (Ident Spot)). declared_as (λ i'. function_head f p q i' ps t) (unless_duplicate 7 (resolved i (function_at a.function_list n).id 1) o)) e
+pre_head a r n f p q i ps t j e = ap (λ (o : M.Option (Ident Spot)). declared_as (λ i'. function_head f p q i' ps t) (unless_duplicate 7 (resolved i (function_at a.function_list n).id 1) o)) e
 
 dropped_is : (f : Fault) (d : Decl Spot) (a : Ground) (z : Poison Spot) → predeclared_by a.st a.rest.containers a.rest.functions (marked_decl a.rest.labels d a.rest.words).0 ≡ bad_decl z → fault_b f ≡ poison_b z → drop_walk f d a ≡ decl_walk d a
 unfolding drop_walk decl_walk analyze_decl decl_b S.ret
@@ -103,7 +102,7 @@ dropped_is f d a z e q =
 
 -- THE CODE DOES SO
 
-pub dropped : {t : List ℕ} {s : Walk} {kind : ℕ} {h : Start} → Heading t s kind h → {o l w : List ℕ} {b : Before} → DeclaredBefore kind s h.identifier w b → {f : Fault} → b ≡ B.Yes f → {r : Walk} {o' l' w' : List ℕ} → Walks t read_decl (drop_walk f) s o l w r o' l' w' → Walks t read_decl decl_walk s o l w r o' l' w'
+pub dropped : {t : List ℕ} {s : Walk} {kind : ℕ} {h : Start} → Heading t s kind h → {o l w : List ℕ} {b : Option Fault} → DeclaredBefore kind s h.identifier w b → {f : Fault} → b ≡ Some f → {r : Walk} {o' l' w' : List ℕ} → Walks t read_decl (drop_walk f) s o l w r o' l' w' → Walks t read_decl decl_walk s o l w r o' l' w'
 unfolding constant_parts function_parts head_parts structure_parts fit_decl marked_decl kind_of
 dropped {t} {s} {kind} {h} hd {o} {l} {w} {b} bf {f} e k = walks λ inp a i.
     let at = a.st in

@@ -140,7 +140,7 @@ module _ (f : ℕ) (p q : Spot) (i : Ident Spot) (ps : List (Param Spot)) (t : M
 -- THE CODE
 
 pub head_arm : {t : List ℕ} {h : Start} (p q : Spot) {row : ℕ} {j : Declared} {i' : Identifier} {s s₁ s₂ s₃ s₄ r : Walk} {o o₁ o₂ o₃ l w w₂ w₃ w₄ : List ℕ} → renumbered t h.places h.from ≡ place_b p ++ place_b q → FunctionAt row w j → i' ≡ resolved_to h.identifier j.id 0
-    → Starts t 2 h.flags h i' s o s₁ o₁ → Opens s₁ s₂ → Under Outside t (listed (read_param 63 false)) params_walk s₂ o₁ l w s₃ o₂ l w₂ → Closes s₃ s w₂ s₄ w₃
+    → Starts t 2 h.flags h i' s o s₁ o₁ → Opens s₁ s₂ → Under Outside t (listed (read_param 63 false)) params_walk s₂ o₁ l w s₃ o₂ l w₂ → Closes s₃ s.tables.scope w₂ s₄ w₃
     → Walks t (maybe (read_ty 63 false)) (onward analyze_maybe_type (maybe_b ty_b)) s₄ o₂ l w₃ r o₃ l w₄ → Arm (NewFunction row (own h)) (begun_function (own h)) t (head_parts h.flags p q (own h)) h.parts s o l w r o₃ l w₄
 unfolding head_parts begun_function counting fit_decl with_stack
 head_arm {t} {h} p q {row} {j} {i'} {s} e fa rs st op pa cl ty = record {
@@ -155,7 +155,7 @@ head_arm {t} {h} p q {row} {j} {i'} {s} e fa rs st op pa cl ty = record {
       let outside : Good b₁ → Outside b₁ = λ z. let gb : Good b = record { few = z.few; fit = z.fit } in record { is = (clear_is a.st (fits gb).0).free } in
       leads_at (op.cur ∙ st.cur) (leads_under _ pa inp outside (op.is (st.is i)) λ ps g i₃.
       let gr = grown_params (analyze_param 5) (grown_param 5) ps b₁.st in
-      let i₄ = cl.is {b = b} i i₃ (record { constants = gr.stack.constants; more = gr.stack.more; locals = gr.stack.locals }) (λ z. record { few = omega (arith, z.few, gr.takes.lower); fit = z.fit }) in
+      let i₄ = cl.is {b = b} refl i i₃ (record { constants = gr.stack.constants; more = gr.stack.more; locals = gr.stack.locals }) (λ z. record { few = omega (arith, z.few, gr.takes.lower); fit = z.fit }) in
       leads_at cl.cur (leads_call _ ty inp i₄ λ y g₂ i₅. leads_end (function_head h.flags p q (own h) ps y) refl i₅ λ good.
       let ga = good_decl (function_head h.flags p q (own h) ps y) a good in
       let gb : Good b = record { few = ga.0.few; fit = both_true a.rest.fit _ ga.0.fit ga.1 } in
@@ -174,7 +174,7 @@ flag_is {name = name} {s = s} {b = b} flags low less mf i g =
 
 pub function_arm : {t : List ℕ} {h : Start} (p q : Spot) {row fl : ℕ} {j : Declared} {i' : Identifier} {s s₁ s₂ s₃ s₄ s₅ r : Walk} {o o₁ o₂ o₃ o₄ l l₂ w w₂ w₃ w₄ w₅ : List ℕ} → h.flags < 32 → h.identifier.name < s.script.names → renumbered t h.places h.from ≡ place_b p ++ place_b q
     → FunctionAt row w j → MainFlag h.flags h.identifier.name s.script.main fl → i' ≡ resolved_to h.identifier j.id 0 → Starts t 1 fl h i' s o s₁ o₁ → Opens s₁ s₂ → Under Outside t (listed (read_param 63 false)) params_walk s₂ o₁ l w s₃ o₂ l w₂
-    → Walks t (maybe (read_body 63)) body_walk s₃ o₂ l w₂ s₄ o₃ l₂ w₃ → Closes s₄ s w₃ s₅ w₄
+    → Walks t (maybe (read_body 63)) body_walk s₃ o₂ l w₂ s₄ o₃ l₂ w₃ → Closes s₄ s.tables.scope w₃ s₅ w₄
     → Walks t (maybe (read_ty 63 false)) (onward analyze_maybe_type (maybe_b ty_b)) s₅ o₃ l₂ w₄ r o₄ l₂ w₅ → Arm (NewFunction row (own h)) (begun_function (own h)) t (function_parts h.flags p q (own h)) h.parts s o l w r o₄ l₂ w₅
 unfolding function_parts begun_function counting fit_decl with_stack body_walk leaving analyze_params_and_body S.◌>>=◌ S.ret
 function_arm {t} {h} p q {row} {fl} {j} {i'} {s} low less e fa mf rs st op pa bo cl ty = record {
@@ -189,7 +189,7 @@ function_arm {t} {h} p q {row} {fl} {j} {i'} {s} low less e fa mf rs st op pa bo
       let outside : Good b₁ → Outside b₁ = λ z. let gb : Good b = record { few = z.few; fit = z.fit } in record { is = (clear_is a.st (fits gb).0).free } in
       leads_at (op.cur ∙ st.cur) (leads_under _ pa inp outside (op.is (st.is i)) λ ps g i₃. leads_call _ bo inp i₃ λ x g₁ i₄.
       let gr = grown_function ps (marked_body a.rest.labels x a.rest.words).0 b₁.st in
-      let i₅ = cl.is {b = b} i i₄ (record { constants = gr.stack.constants; more = gr.stack.more; locals = gr.stack.locals }) (λ z. record { few = omega (arith, z.few, gr.takes.lower); fit = (and_true b.rest.fit _ z.fit).0 }) in
+      let i₅ = cl.is {b = b} refl i i₄ (record { constants = gr.stack.constants; more = gr.stack.more; locals = gr.stack.locals }) (λ z. record { few = omega (arith, z.few, gr.takes.lower); fit = (and_true b.rest.fit _ z.fit).0 }) in
       leads_at cl.cur (leads_call _ ty inp i₅ λ y g₂ i₆. leads_end (function h.flags p q (own h) ps x y) refl i₆ λ good.
       let ga = good_decl (function h.flags p q (own h) ps x y) a good in
       let gc = and_true (clear a.st) _ ga.1 in

@@ -58,7 +58,7 @@ structure_is f p i c ms t a xs new is bytes =
 -- THE CODE
 
 pub structure_arm : {t : List ℕ} {h : Start} (p : Spot) {row : ℕ} {j : Declared} {i' : Identifier} {s s₁ s₂ s₃ s₄ r : Walk} {o o₁ o₂ o₃ l w w₂ w₃ w₄ : List ℕ} → renumbered t h.places h.from ≡ place_b p → ContainerAt row w j → i' ≡ resolved_to h.identifier j.id 1
-    → Starts t 3 h.flags h i' s o s₁ o₁ → Opens s₁ s₂ → ((c : Ident Spot) (l : List ℕ) → Under (InStructure row c) t (listed (read_param 63 true)) (members_walk c) s₂ o₁ l w s₃ o₂ l w₂) → Closes s₃ s w₂ s₄ w₃
+    → Starts t 3 h.flags h i' s o s₁ o₁ → Opens s₁ s₂ → ((c : Ident Spot) (l : List ℕ) → Under (InStructure row c) t (listed (read_param 63 true)) (members_walk c) s₂ o₁ l w s₃ o₂ l w₂) → Closes s₃ s.tables.scope w₂ s₄ w₃
     → Walks t (maybe (read_ty 63 false)) (onward analyze_maybe_type (maybe_b ty_b)) s₄ o₂ l w₃ r o₃ l w₄ → Arm (NewContainer true row (own h)) (begun_container (own h)) t (structure_parts h.flags p (own h)) h.parts s o l w r o₃ l w₄
 unfolding structure_parts begun_container counting fit_decl with_stack id_at id_of
 structure_arm {t} {h} p {row} {j} {i'} {s} {l = l} e ca rs st op me cl ty = record {
@@ -75,7 +75,7 @@ structure_arm {t} {h} p {row} {j} {i'} {s} {l = l} e ca rs st op me cl ty = reco
       let inside : Good b₁ → InStructure row c b₁ = λ z. let gb : Good b = record { few = z.few; fit = z.fit } in record { outside = record { is = (clear_is a.st (fits gb).0).free }; low = low gb; is = refl } in
       leads_at (op.cur ∙ st.cur) (leads_under _ (me c l) inp inside (op.is (st.is i)) λ ms g i₃.
       let gr = grown_params (analyze_member c) (grown_member c) ms b₁.st in
-      let i₄ = cl.is {b = b} i i₃ (record { constants = gr.stack.constants; more = gr.stack.more; locals = gr.stack.locals }) (λ z. record { few = omega (arith, z.few, gr.takes.lower); fit = z.fit }) in
+      let i₄ = cl.is {b = b} refl i i₃ (record { constants = gr.stack.constants; more = gr.stack.more; locals = gr.stack.locals }) (λ z. record { few = omega (arith, z.few, gr.takes.lower); fit = z.fit }) in
       leads_at cl.cur (leads_call _ ty inp i₄ λ y g₂ i₅. leads_end (structure h.flags p (own h) ms y) refl i₅ λ good.
       let ga = good_decl (structure h.flags p (own h) ms y) a good in
       let gb : Good b = record { few = ga.0.few; fit = both_true a.rest.fit _ ga.0.fit ga.1 } in

@@ -1,5 +1,5 @@
 -- What the functions over declarations promise.
-use Rattle.std.specs.Prelude.{ℕ, ◌+◌, ◌<◌, ◌≡◌, Bool, true, false, ◌&&◌, List, ◌++◌, eqb, take}
+use Rattle.std.specs.Prelude.{ℕ, ◌+◌, ◌<◌, ◌≡◌, Bool, true, false, ◌&&◌, List, ◌++◌, eqb, take, None, Ok}
 use Rattle.std.proofs.Math.Option.{none}
 use Rattle.penne.specs.Reader.{Reader, ◌>>=◌, ret, below, listed}
 use Rattle.penne.specs.Tree.{Spot, Ident, expr, Decl, constant, function, function_head, structure}
@@ -7,7 +7,6 @@ use Rattle.penne.specs.Read.{maybe, read, read_ty, read_body, read_param, read_d
 use Rattle.penne.specs.Write.{num_b}
 use Rattle.penne.specs.Find.{first_named}
 use Rattle.penne.specs.Variables.{with_main}
-use Rattle.fields.specs.declared.number.Read.TheVariants.{Number}
 use Rattle.fields.specs.declared.field.Identifier.{Identifier}
 use Rattle.fields.specs.Answers.{cursor, counts_of, Gives}
 use Rattle.answer.specs.Parts.{renumbered}
@@ -18,14 +17,13 @@ use Rattle.walk.specs.declared.fault.Fault.{Fault}
 use Rattle.walk.specs.Walking.{here, Rest, Ground, Good, Is, say, Did, Leads, Walks, Input, fault_b, made_b}
 use Rattle.stages.specs.declared.heads.Start.{Start}
 use Rattle.stages.specs.Heads.{Begins}
-use Rattle.stages.specs.declared.before.Before.TheVariants as B
 use Rattle.stages.specs.Before.{DeclaredBefore}
 use Rattle.declaration_parts.specs.Declaring.{clear, fit_container, fit_function, fit_decl, behind, decl_walk}
 
 -- the declaration at the walk has this kind and begins so
 pub record Heading (t : List ℕ) (s : Walk) (kind : ℕ) (h : Start) : Type 0 where
   pub at : ℕ
-  pub kinds : Gives (below 6) t s.at (Number kind at)
+  pub kinds : Gives (below 6) t s.at (Ok (kind, at))
   pub begins : Begins t s.script.names at kind h
 
 -- A DUPLICATE
@@ -96,4 +94,4 @@ pub record MainFlag (flags name main r : ℕ) : Type 0 where
 
 -- keep_declaration: what begins so and was not declared before is walked
 pub record Keeps (t : List ℕ) (kind : ℕ) (h : Start) (s : Walk) (o l w : List ℕ) (r : Walk) (o' l' w' : List ℕ) : Type 0 where
-  pub does : Heading t s kind h → DeclaredBefore kind s h.identifier w B.No → Walks t read_decl decl_walk s o l w r o' l' w'
+  pub does : Heading t s kind h → DeclaredBefore kind s h.identifier w None → Walks t read_decl decl_walk s o l w r o' l' w'

@@ -10,56 +10,50 @@ ghost use Rattle.walk.specs.Walking.{say, Walks};
 ghost use Rattle.stages.specs.Heads.{own};
 ghost use Rattle.declaration_parts.specs.Heading.{drop_walk, begun_container, begun_function, NewContainer, NewFunction, Arm, constant_parts, head_parts, structure_parts, Starts, MainFlag};
 
-use answer::copy::{then_copy, then_head, then_numbers};
-use answer::identifier::resolved;
-use answer::number::then_number;
 use entries::{members, parameters};
 use expressions::expression;
-use fields::counts::Passed;
 use fields::field::{Identifier, raw};
-use fields::number::{Read, number};
+use fields::number::number;
 use stages::heads::Start;
 use tree::declaration::declaration as past_declaration;
 use types::{contained_type, maybe_type};
 use walk::edges::{Holder, container_at};
 use walk::fault::Fault;
-use walk::items::{write_fault, write_identifier};
-use walk::names::{closed, function_at, in_constexpr_of, opened};
+use walk::items::write_fault;
+use walk::names::function_at;
 use walk::state::Walk;
 
 // Nothing in it is looked at.
-pub fn drop_declaration(tree: &[u8], answer: &mut [u8], st: Walk, fault: Fault) -> Walk
-    ensures { (l w : List ℕ) → Walks tree.now read_decl (drop_walk fault) st answer.old l w result answer.new l w }
+pub fn drop_declaration(tree: &[u8], answer: &mut [u8], st: &mut Walk, fault: Fault)
+    ensures { (l w : List ℕ) → Walks tree.now read_decl (drop_walk fault) st.old answer.old l w st.new answer.new l w }
 {
-    let at = st.at;
-    let counts = st.counts;
-    let one = past_declaration(tree, st.script.names, counts, at);
-    let Passed::To(behind, more) = one else {
-        return st;
+    let Ok((behind, more)) = past_declaration(tree, st.script.names, st.counts, st.at) else {
+        return;
     };
-    let w = st.wrote;
-    let x = write_fault(answer, w, 5, fault);
-    st.wrote(x).counted(more).moved(behind)
+    st.wrote = write_fault(answer, st.wrote, 5, fault);
+    st.counts = more;
+    st.at = behind;
 }
 
 // Kind, flags, places and identifier are written; the walk is at the declaration's parts.
 pub fn started(
     tree: &[u8],
     answer: &mut [u8],
-    st: Walk,
+    st: &mut Walk,
     kind: u32,
     flags: u32,
     h: Start,
     i: Identifier,
-) -> Walk
-    ensures { Starts tree.now kind flags h i st answer.old result answer.new }
+)
+    ensures { Starts tree.now kind flags h i st.old answer.old st.new answer.new }
 {
-    let w = st.wrote;
-    let x = then_number(answer, w, kind);
-    let y = then_number(answer, x, flags);
-    let z = then_numbers(answer, y, tree, h.places, h.from);
-    let v = write_identifier(answer, z, i);
-    st.wrote(v).moved(h.parts)
+    st.wrote = st
+        .wrote
+        .then_number(answer, kind)
+        .then_number(answer, flags)
+        .then_numbers(answer, tree, h.places, h.from)
+        .then_identifier(answer, i);
+    st.at = h.parts;
 }
 
 // In its value a use is an edge.
@@ -68,46 +62,38 @@ pub fn constant(
     answer: &mut [u8],
     list: &mut [u32],
     work: &mut [u32],
-    st: Walk,
+    st: &mut Walk,
     h: Start,
     row: u32,
-) -> Walk
-    ensures { (p q : Spot) → row < 128 → renumbered tree.now h.places h.from ≡ place_b p ++ place_b q → Arm (NewContainer false row (own h)) (begun_container (own h)) tree.now (constant_parts h.flags p q (own h)) h.parts st answer.old list.old work.old result answer.new list.new work.new }
+)
+    ensures { (p q : Spot) → row < 128 → renumbered tree.now h.places h.from ≡ place_b p ++ place_b q → Arm (NewContainer false row (own h)) (begun_container (own h)) tree.now (constant_parts h.flags p q (own h)) h.parts st.old answer.old list.old work.old st.new answer.new list.new work.new }
 {
     if 128 <= row {
-        return st;
+        return;
     }
-    let j = container_at(work, row as usize);
-    let s = started(
-        tree,
-        answer,
-        st,
-        0,
-        h.flags,
-        h,
-        resolved(h.identifier, j.id, 1),
-    );
-    let r = expression(tree, answer, list, work, in_constexpr_of(s, row + 1), 63);
+    let declared = container_at(work, row as usize);
+    let i = Identifier {
+        id: declared.id,
+        authority: 1,
+        ..h.identifier
+    };
+    started(tree, answer, st, 0, h.flags, h, i);
+    st.in_constexpr_of(row + 1);
+    expression(tree, answer, list, work, st, 63);
+    st.in_constexpr_of(0);
     let holder = Holder {
         row: row as usize,
-        is_member: false,
-        member: 0,
+        member: None,
     };
-    contained_type(tree, answer, work, in_constexpr_of(r, 0), holder, 63)
+    contained_type(tree, answer, work, st, holder, 63);
 }
 
 // "gains flag 4", where it is not there already.
 pub fn with_main(flags: u32, name: u32, main: u32) -> u32
     ensures { MainFlag flags name main result }
 {
-    if name != main {
-        return flags;
-    }
-    if 32 <= flags {
-        return flags;
-    }
-    if flags / 4 % 2 == 0 {
-        return flags + 4;
+    if name == main {
+        return flags | 4;
     }
     flags
 }
@@ -116,71 +102,66 @@ pub fn function_head(
     tree: &[u8],
     answer: &mut [u8],
     work: &mut [u32],
-    st: Walk,
+    st: &mut Walk,
     h: Start,
     row: u32,
-) -> Walk
-    ensures { (p q : Spot) (l : List ℕ) → renumbered tree.now h.places h.from ≡ place_b p ++ place_b q → Arm (NewFunction row (own h)) (begun_function (own h)) tree.now (head_parts h.flags p q (own h)) h.parts st answer.old l work.old result answer.new l work.new }
+)
+    ensures { (p q : Spot) (l : List ℕ) → renumbered tree.now h.places h.from ≡ place_b p ++ place_b q → Arm (NewFunction row (own h)) (begun_function (own h)) tree.now (head_parts h.flags p q (own h)) h.parts st.old answer.old l work.old st.new answer.new l work.new }
 {
-    let j = function_at(work, row as usize);
-    let s = started(
-        tree,
-        answer,
-        st,
-        2,
-        h.flags,
-        h,
-        resolved(h.identifier, j.id, 0),
-    );
-    let r = parameters(tree, answer, work, opened(s));
-    let q = closed(work, r, st);
-    maybe_type(tree, answer, work, q, 63)
+    let outer = st.tables.scope;
+    let declared = function_at(work, row as usize);
+    let i = Identifier {
+        id: declared.id,
+        authority: 0,
+        ..h.identifier
+    };
+    started(tree, answer, st, 2, h.flags, h, i);
+    st.push_scope();
+    parameters(tree, answer, work, st);
+    st.pop_scope(work, outer);
+    maybe_type(tree, answer, work, st, 63);
 }
 
 pub fn structure(
     tree: &[u8],
     answer: &mut [u8],
     work: &mut [u32],
-    st: Walk,
+    st: &mut Walk,
     h: Start,
     row: u32,
-) -> Walk
-    ensures { (p : Spot) (l : List ℕ) → renumbered tree.now h.places h.from ≡ place_b p → Arm (NewContainer true row (own h)) (begun_container (own h)) tree.now (structure_parts h.flags p (own h)) h.parts st answer.old l work.old result answer.new l work.new }
+)
+    ensures { (p : Spot) (l : List ℕ) → renumbered tree.now h.places h.from ≡ place_b p → Arm (NewContainer true row (own h)) (begun_container (own h)) tree.now (structure_parts h.flags p (own h)) h.parts st.old answer.old l work.old st.new answer.new l work.new }
 {
-    let j = container_at(work, row as usize);
-    let s = started(
-        tree,
-        answer,
-        st,
-        3,
-        h.flags,
-        h,
-        resolved(h.identifier, j.id, 1),
-    );
-    let r = members(tree, answer, work, opened(s), row);
-    let q = closed(work, r, st);
-    maybe_type(tree, answer, work, q, 63)
+    let outer = st.tables.scope;
+    let declared = container_at(work, row as usize);
+    let i = Identifier {
+        id: declared.id,
+        authority: 1,
+        ..h.identifier
+    };
+    started(tree, answer, st, 3, h.flags, h, i);
+    st.push_scope();
+    members(tree, answer, work, st, row);
+    st.pop_scope(work, outer);
+    maybe_type(tree, answer, work, st, 63);
 }
 
-pub fn import(tree: &[u8], answer: &mut [u8], st: Walk) -> Walk
-    ensures { (l w : List ℕ) → Walks tree.now read_import (λ d a. say (decl_b d) a) st answer.old l w result answer.new l w }
+pub fn import(tree: &[u8], answer: &mut [u8], st: &mut Walk)
+    ensures { (l w : List ℕ) → Walks tree.now read_import (λ d a. say (decl_b d) a) st.old answer.old l w st.new answer.new l w }
 {
-    let at = st.at;
-    let length = number(tree, at);
-    let Read::Number(n, a) = length else {
-        return st;
+    let Ok((length, text)) = number(tree, st.at) else {
+        return;
     };
-    let text = raw(tree, a, n);
-    let Read::Number(_, b) = text else {
-        return st;
+    let Ok(behind) = raw(tree, text, length) else {
+        return;
     };
-    let place = number(tree, b);
-    let Read::Number(p, c) = place else {
-        return st;
+    let Ok((place, next)) = number(tree, behind) else {
+        return;
     };
-    let w = st.wrote;
-    let x = then_head(answer, w, 4, tree, at, a);
-    let y = then_copy(answer, x, tree, a, b);
-    let z = then_number(answer, y, p);
-    st.wrote(z).moved(c)
+    st.wrote = st
+        .wrote
+        .then_head(answer, 4, tree, st.at, text)
+        .then_copy(answer, tree, text, behind)
+        .then_number(answer, place);
+    st.at = next;
 }

@@ -5,6 +5,8 @@ use mathlib.Core.List.{List, ◌++◌, append_assoc}
 use Prim.Native.Nat.{ℕ, ◌+◌, ◌≤◌, ◌<◌}
 use native.Mathlib.Omega.{arith}
 use lib.ListN.{length, get_or}
+use Rattle.fields.specs.declared.refusal.Refusal.{Refusal}
+use Rattle.std.specs.Prelude.{Result, Ok, Err, Option, Some, None}
 use Rattle.penne.specs.Reader.{Counts, Cur, got, Reader, ◌>>=◌, ret, num, below, plus, fits, an_entry, counted}
 use Rattle.penne.specs.Tree.{Spot, Ident, Poison, Maybe, ok, err}
 use Rattle.penne.specs.Read.{place, ident, maybe, read_poison}
@@ -12,18 +14,11 @@ use Rattle.penne.specs.Write.{num_b, place_b, poison_b, ident_b, maybe_b}
 use Rattle.penne.specs.State as S
 use Rattle.penne.specs.Scopes.{declare_variable}
 use Rattle.penne.specs.Variables.{declare_maybe}
-use Rattle.fields.specs.declared.number.Read.{Read}
-use Rattle.fields.specs.declared.number.Read.TheVariants.{Number, Refused}
 use Rattle.fields.specs.declared.field.Identifier.{Identifier}
-use Rattle.fields.specs.declared.field.Identified.{Identified}
-use Rattle.fields.specs.declared.field.Identified.TheVariants as I
 use Rattle.fields.specs.declared.counts.Counts as K
-use Rattle.fields.specs.declared.counts.Counted as C
-use Rattle.fields.specs.declared.counts.Counted.TheVariants.{Are, TooMany}
-use Rattle.fields.specs.declared.counts.Passed.TheVariants as Q
-use Rattle.fields.specs.Answers.{cursor, counts_of, ident_of, passed_of, passed_by, Gives, Identifies, Counting, Passes, poison_names, poison_places}
+use Rattle.fields.specs.Answers.{cursor, counts_of, ident_of, Gives, Reads, Identifies, Counting, poison_names, poison_places}
 use Rattle.fields.proofs.Chain.{reads}
-use Rattle.fields.proofs.Fields.{goes}
+use Rattle.fields.proofs.Chain.{goes}
 use Rattle.fields.proofs.Counting.{fitted}
 use Rattle.tree.proofs.Statements.{entry_unread, entry_many}
 use Rattle.answer.specs.declared.wrote.Wrote.{Wrote}
@@ -32,21 +27,16 @@ use Rattle.answer.proofs.Fields.{identifier_bytes}
 use Rattle.label_references.proofs.Laying.{fits_statements}
 use Rattle.walk.specs.declared.state.Walk.{Walk}
 use Rattle.walk.specs.declared.fault.Fault.{Fault}
-use Rattle.walk.specs.declared.names.Named.{Named}
-use Rattle.walk.specs.declared.names.Named.TheVariants as N
-use Rattle.walk.specs.Walking.{Moves, Writes, Counted, here, Rest, Marks, Ground, Good, Is, onward, silently, say, say_poison, Leads, Input, Walks, fault_b, made_b, Naming}
-use Rattle.walk.specs.Walking as W
+use Rattle.walk.specs.Walking.{moved_to, with_wrote, with_counts, here, Rest, Marks, Ground, Good, Is, onward, silently, say, say_poison, Leads, Input, Walks, fault_b, made_b, Naming}
 use Rattle.walk.specs.Calls.{DeclaresBy}
-use Rattle.walk.proofs.Leading.{unend_go, leads_refused, leads_bind, leads_got, leads_call, leads_counting, is_same, leads_at}
-use Rattle.walk.proofs.Writing.{here_moved, here_behind, moved, wrote}
+use Rattle.walk.proofs.Leading.{leads_unpassed, leads_bind, leads_got, leads_call, leads_counting, is_same, leads_at}
+use Rattle.walk.proofs.Writing.{moved, wrote}
 use Rattle.walk.proofs.Writing as Writing
 use Rattle.walk.proofs.Choosing.{leads_unmaybe, leads_ok, leads_err}
 use Rattle.walk.proofs.Identifying.{identified_low}
 use Rattle.types.proofs.Trying.{leads_name, leads_unnamed}
 use Rattle.walk.proofs.Using.{made_used, made_refused}
-use Rattle.entries.specs.declared.Entry.{Entry}
-use Rattle.entries.specs.declared.Entry.TheVariants as E
-use Rattle.entries.specs.Entering.{Outside, walk_of, Names, named, nameless, Entered, DeclaresEntry, place_and_name, placed_b, NamesEntry}
+use Rattle.entries.specs.Entering.{Outside, Names, named, nameless, Entered, DeclaresEntry, place_and_name, placed_b, NamesEntry}
 
 -- THE NAME
 
@@ -58,42 +48,37 @@ name_bad : (k : ℕ) (i : Ident Spot) (a : Ground) (f : Fault) {z : Poison Spot}
 unfolding declare_maybe maybe_b
 name_bad k i a f e q = ap (λ (xs : List ℕ). record { out = a.out ++ xs; st = (declare_variable k i a.st).1; rest = a.rest }) (ap (λ (xs : List ℕ). num_b 1 ++ xs) q ∙ ap (maybe_b ident_b) (sym e))
 
-module _ {kind : ℕ} {t : List ℕ} {s : Walk} {r₁ : Identified} (g : Identifies t s.script.names s.at r₁) {o w : List ℕ} where
-  pub declared_unread : {i p : ℕ} {r : Entry} {o' w' : List ℕ} → r₁ ≡ I.Not i p → DeclaresEntry kind t s o w r o' w'
+module _ {kind : ℕ} {t : List ℕ} {s : Walk} {r₁ : Result (Identifier × ℕ) Refusal} (g : Identifies t s.script.names s.at r₁) {o w : List ℕ} where
+  pub declared_unread : {x : Refusal} {r : Walk} {name : Option ℕ} {o' w' : List ℕ} → r₁ ≡ Err x → DeclaresEntry kind t s o w r name o' w'
   declared_unread e = record { does = λ q₁ q₂ h l a out few room i. leads_unnamed g e }
 
-  module _ {j : Identifier} {n : ℕ} (e : r₁ ≡ I.Is j n) {v : Named} {w' : List ℕ} (k : DeclaresBy kind s j s.at w v w') where
-    naming : 1 ≡ get_or poison_names kind 0 → 2 ≡ get_or poison_places kind 0 → Input t → (l : List ℕ) (a : Ground) → (Good a → Outside a) → s.counts.entries ≤ 1024 → (Good a → length a.st.variable_stack.locals < s.counts.entries) → Is s o l w a
-        → Naming (declare_variable kind) s s.at (ident_of s.at j) a o v l w'
-    naming q₁ q₂ h l a out few room i = let low = identified_low g e in (k.does q₁ q₂).does (omega (arith, h.short, low.0)) low.1 few o l a room (λ z. (out z).is) i
+  module _ {j : Identifier} {n : ℕ} (e : r₁ ≡ Ok (j, n)) {s₁ : Walk} {w' : List ℕ} where
+    naming : {v : Result Identifier Fault} → DeclaresBy kind s j s.at w s₁ v w' → 1 ≡ get_or poison_names kind 0 → 2 ≡ get_or poison_places kind 0 → Input t → (l : List ℕ) (a : Ground) → (Good a → Outside a) → s.counts.entries ≤ 1024 → (Good a → length a.st.variable_stack.locals < s.counts.entries) → Is s o l w a
+        → Naming (declare_variable kind) s s.at (ident_of s.at j) a o s₁ v l w'
+    naming k q₁ q₂ h l a out few room i = let low = identified_low g e in (k.does q₁ q₂).does (omega (arith, h.short, low.0)) low.1 few o l a room (λ z. (out z).is) i
 
-    pub declared_as : {s₁ : Walk} {made : Identifier} {x : Wrote} {s₂ r : Walk} {o' : List ℕ} → v ≡ N.As s₁ made → Put s₁.wrote (num_b 0 ++ made_b made) o x o' → Writes s₁ x s₂ → Moves s₂ n r → DeclaresEntry kind t s o w (E.Named r made.place) o' w'
-    unfolding walk_of W.walk_of W.used_of declare_maybe
-    declared_as {s₁} {made} {r = r} fine put wr mv = record {
+    pub declared_as : {made : Identifier} {x : Wrote} {o' : List ℕ} → DeclaresBy kind s j s.at w s₁ (Ok made) w' → Put s₁.wrote (num_b 0 ++ made_b made) o x o' → DeclaresEntry kind t s o w (moved_to (with_wrote s₁ x) n) (Some made.place) o' w'
+    unfolding declare_maybe
+    declared_as {made} k put = record {
       does = λ q₁ q₂ h l a out few room i.
           let y = ident_of s.at j in
-          let m = naming q₁ q₂ h l a out few room i in
-          let c : here s₁ ≡ here s = ap (λ (d : Named). here (W.walk_of d)) (sym fine) ∙ m.cur in
-          let i₁ = subst (λ (d : Named). Is (W.walk_of d) o l w' (silently (declare_variable kind) y a)) fine m.is in
+          let m = naming k q₁ q₂ h l a out few room i in
+          let fine = λ (z : _). made_used (m.made z) refl in
           leads_name g e (record {
-            did = record { cur = here_behind s c wr mv; is = is_same (λ z. name_fine kind y a (made_used (m.made (record { few = z.few; fit = z.fit })) (ap W.used_of fine))) (moved (wrote i₁ put wr) mv) };
-            told = λ z. subst (λ (d : Maybe Spot (Ident Spot)). Names (E.Named r made.place) d) (sym (made_used (m.made (record { few = z.few; fit = z.fit })) (ap W.used_of fine))) (named refl);
-            read = λ u b. absurd (let q : ◌≡◌ {A = ℕ} 0 1 = cc in omega arith);
+            did = record { cur = sym (ap (λ (c : Cur). cursor n c.names c.counts) m.cur); is = is_same (λ z. name_fine kind y a (fine (record { few = z.few; fit = z.fit }))) (moved (wrote m.is put (record { is = refl })) (record { is = refl })) };
+            told = λ z. subst (λ (d : Maybe Spot (Ident Spot)). Names (Some made.place) d) (sym (fine (record { few = z.few; fit = z.fit }))) (named refl);
           });
     }
 
-    pub declared_not : {s₁ : Walk} {f : Fault} {x : Wrote} {s₂ r : Walk} {o' : List ℕ} → v ≡ N.Not s₁ f → Put s₁.wrote (num_b 1 ++ fault_b f) o x o' → Writes s₁ x s₂ → Moves s₂ n r → DeclaresEntry kind t s o w (E.Nameless r) o' w'
-    unfolding walk_of W.walk_of W.used_of declare_maybe
-    declared_not {s₁} {f} {r = r} not put wr mv = record {
+    pub declared_not : {f : Fault} {x : Wrote} {o' : List ℕ} → DeclaresBy kind s j s.at w s₁ (Err f) w' → Put s₁.wrote (num_b 1 ++ fault_b f) o x o' → DeclaresEntry kind t s o w (moved_to (with_wrote s₁ x) n) None o' w'
+    unfolding declare_maybe
+    declared_not {f} k put = record {
       does = λ q₁ q₂ h l a out few room i.
           let y = ident_of s.at j in
-          let m = naming q₁ q₂ h l a out few room i in
-          let c : here s₁ ≡ here s = ap (λ (d : Named). here (W.walk_of d)) (sym not) ∙ m.cur in
-          let i₁ = subst (λ (d : Named). Is (W.walk_of d) o l w' (silently (declare_variable kind) y a)) not m.is in
+          let m = naming k q₁ q₂ h l a out few room i in
           leads_name g e (record {
-            did = record { cur = here_behind s c wr mv; is = is_same (λ z. let b = made_refused (m.made (record { few = z.few; fit = z.fit })) (ap W.used_of not) in name_bad kind y a f b.1 b.2) (moved (wrote i₁ put wr) mv) };
-            told = λ z. let b = made_refused (m.made (record { few = z.few; fit = z.fit })) (ap W.used_of not) in subst (λ (d : Maybe Spot (Ident Spot)). Names (E.Nameless r) d) (sym b.1) nameless;
-            read = λ u b. absurd (let q : ◌≡◌ {A = ℕ} 0 1 = cc in omega arith);
+            did = record { cur = sym (ap (λ (c : Cur). cursor n c.names c.counts) m.cur); is = is_same (λ z. let b = made_refused (m.made (record { few = z.few; fit = z.fit })) refl in name_bad kind y a f b.1 b.2) (moved (wrote m.is put (record { is = refl })) (record { is = refl })) };
+            told = λ z. let b = made_refused (m.made (record { few = z.few; fit = z.fit })) refl in subst (λ (d : Maybe Spot (Ident Spot)). Names None d) (sym b.1) nameless;
           });
     }
 
@@ -109,10 +94,10 @@ record More (k c : K.Counts) : Type 0 where
   statements : c.statements ≡ k.statements
   few : c.entries ≤ 1024
 
-more : {k b c : K.Counts} {y : C.Counted} → Counting k b y → counts_of b ≡ an_entry → y ≡ Are c → More k c
+more : {k b c : K.Counts} {y : Option K.Counts} → Counting k b y → counts_of b ≡ an_entry → y ≡ Some c → More k c
 unfolding plus an_entry
 more {k} {b} {c} g u e =
-    let f = fitted g e in
+    let f = fitted (subst (λ (z : Option K.Counts). Counting k b z) e g) in
     let q : counts_of c ≡ plus (counts_of k) an_entry = f.1 ∙ ap (plus (counts_of k)) u in
     let fit : fits (plus (counts_of k) an_entry) ≡ true = subst (λ (z : Counts). fits (plus (counts_of k) z) ≡ true) u f.0 in
     let l = fits_statements (plus (counts_of k) an_entry) fit in
@@ -136,13 +121,9 @@ marks_on {w = w} {m} d h = record {
   main = h.main;
 }
 
-place_value : {t : List ℕ} {at : ℕ} {m₁ : Read} (names : ℕ) (k : Counts) → Gives num t at m₁ → {v n : ℕ} → m₁ ≡ Number v n → place t (cursor at names k) ≡ got (record { number = v; from = at }) (cursor n names k)
+place_value : {t : List ℕ} {at : ℕ} {m₁ : Result (ℕ × ℕ) Refusal} (names : ℕ) (k : Counts) → Gives num t at m₁ → {v n : ℕ} → m₁ ≡ Ok (v, n) → place t (cursor at names k) ≡ got (record { number = v; from = at }) (cursor n names k)
 unfolding place ret
-place_value names k g e = goes _ (reads g) k e
-
-unpassed : {A : Type 0} {t : List ℕ} {P : A → Cur → Type 0} {m : Reader A} {names at : ℕ} {k : K.Counts} {i p : ℕ} → Passes m t names k at (Q.Refused i p) → Leads m t (cursor at names (counts_of k)) P
-unfolding passed_of
-unpassed g = leads_refused (unend_go _ g.is)
+place_value {t} {at} names k g e = goes _ (subst (λ (q : Result (ℕ × ℕ) Refusal). Reads num t names at q) e (reads g)) k
 
 -- what is read, under another name
 leads_by : {A B : Type 0} (f : A → B) {t : List ℕ} {m : Reader A} {P : B → Cur → Type 0} {c : Cur} → Leads m t c (λ x d. P (f x) d) → Leads (m >>= λ x. ret (f x)) t c P
@@ -150,61 +131,54 @@ leads_by f {m = m} k = leads_bind m _ λ y e h. leads_got (f y) (k.to y e h)
 
 -- PLACE AND NAME
 
-entered_at : {kind : ℕ} (p : Spot) {x : Maybe Spot (Ident Spot)} {d : Cur} (a : Ground) {r : Entry} {o l w : List ℕ} → Entered kind (maybe_b ident_b) x d (say (place_b p) a) r o l w → Entered kind (placed_b p) x d a r o l w
+entered_at : {kind : ℕ} (p : Spot) {x : Maybe Spot (Ident Spot)} {d : Cur} (a : Ground) {r : Walk} {name : Option ℕ} {o l w : List ℕ} → Entered kind (maybe_b ident_b) x d (say (place_b p) a) r name o l w → Entered kind (placed_b p) x d a r name o l w
 entered_at {kind} p {x} a k = record {
   did = record { cur = k.did.cur; is = is_same (λ _. ap (λ (xs : List ℕ). record { out = xs; st = (declare_maybe kind x a.st).1; rest = a.rest }) (append_assoc a.out (place_b p) _)) k.did.is };
   told = λ z. k.told (record { few = z.few; fit = z.fit });
-  read = k.read;
 }
 
-module _ {t : List ℕ} (s : Walk) {m₁ : Read} (g : Gives num t s.at m₁) where
-  pub entry_unplaced : {kind i p : ℕ} {o w : List ℕ} {r : Entry} {o' w' : List ℕ} → m₁ ≡ Refused i p → NamesEntry kind t s o w r o' w'
+module _ {t : List ℕ} (s : Walk) {m₁ : Result (ℕ × ℕ) Refusal} (g : Gives num t s.at m₁) where
+  pub entry_unplaced : {kind : ℕ} {x : Refusal} {o w : List ℕ} {r : Walk} {name : Option ℕ} {o' w' : List ℕ} → m₁ ≡ Err x → NamesEntry kind t s o w r name o' w'
   unfolding place_and_name
-  entry_unplaced {i = i} {p} e = record { does = λ q₁ q₂ h l a out is. unpassed (entry_unread _ g {x = Q.Refused i p} e (sym (ap (passed_by s.counts) e))) }
+  entry_unplaced e = record { does = λ q₁ q₂ h l a out is. leads_unpassed (entry_unread _ (subst (λ (q : Result (ℕ × ℕ) Refusal). Gives num t s.at q) e g)) }
 
-  module _ {v n : ℕ} (e : m₁ ≡ Number v n) {b : K.Counts} {y : C.Counted} (c : Counting s.counts b y) (u : counts_of b ≡ an_entry) where
-    pub entry_full : {kind : ℕ} {o w : List ℕ} {r : Entry} {o' w' : List ℕ} → y ≡ TooMany → NamesEntry kind t s o w r o' w'
+  module _ {v n : ℕ} (e : m₁ ≡ Ok (v, n)) {b : K.Counts} {y : Option K.Counts} (c : Counting s.counts b y) (u : counts_of b ≡ an_entry) where
+    pub entry_full : {kind : ℕ} {o w : List ℕ} {r : Walk} {name : Option ℕ} {o' w' : List ℕ} → y ≡ None → NamesEntry kind t s o w r name o' w'
     unfolding place_and_name
-    entry_full q = record { does = λ q₁ q₂ h l a out is. unpassed (entry_many _ g e c u q) }
+    entry_full q = record { does = λ q₁ q₂ h l a out is. leads_unpassed (entry_many _ (subst (λ (z : Result (ℕ × ℕ) Refusal). Gives num t s.at z) e g) (subst (λ (z : Option K.Counts). Counting s.counts b z) q c) u) }
 
-    module _ {k : K.Counts} (f : y ≡ Are k) where
+    module _ {k : K.Counts} (f : y ≡ Some k) where
       -- behind the place
       leads_entry : {P : Spot × Maybe Spot (Ident Spot) → Cur → Type 0} → Leads (maybe ident) t (cursor n s.script.names (counts_of k)) (λ i d. P (record { number = v; from = s.at }, i) d) → Leads place_and_name t (here s) P
       unfolding place_and_name counted
       leads_entry {P} next = let d = more c u f in leads_counting (λ _. an_entry) place _ (place_value s.script.names (counts_of s.counts) g e) λ _. leads_at (ap (cursor n s.script.names) d.counts) (leads_by (λ i. (record { number = v; from = s.at }, i)) {P = P} next)
 
-      pub entry_untagged : {kind : ℕ} {m₂ : Read} → Gives (below 2) t n m₂ → {i p : ℕ} {o w : List ℕ} {r : Entry} {o' w' : List ℕ} → m₂ ≡ Refused i p → NamesEntry kind t s o w r o' w'
+      pub entry_untagged : {kind : ℕ} {m₂ : Result (ℕ × ℕ) Refusal} → Gives (below 2) t n m₂ → {x : Refusal} {o w : List ℕ} {r : Walk} {name : Option ℕ} {o' w' : List ℕ} → m₂ ≡ Err x → NamesEntry kind t s o w r name o' w'
       entry_untagged tag z = record { does = λ q₁ q₂ h l a out is. leads_entry (leads_unmaybe tag ident z) }
 
       -- it is counted, its place is written, its tag is read
-      module _ {x : Wrote} {o o₁ : List ℕ} {s₁ s₂ s₃ : Walk} {n₂ : ℕ} (put : Put s.wrote (num_b v) o x o₁) (wr : Writes s x s₁) (co : Counted s₁ k s₂) (mv : Moves s₂ n₂ s₃) where
-        here_entry : here s₃ ≡ cursor n₂ s.script.names (counts_of k)
-        here_entry = here_moved mv ∙ ap (λ (q : Walk). cursor n₂ q.script.names (counts_of q.counts)) co.is ∙ ap (λ (q : Walk). cursor n₂ q.script.names (counts_of k)) wr.is
+      abbrev behind : Wrote → ℕ → Walk
+      behind x n₂ = moved_to (with_counts (with_wrote s x) k) n₂
 
-        counts_entry : s₃.counts ≡ k
-        counts_entry = ap (λ (q : Walk). q.counts) mv.is ∙ ap (λ (q : Walk). q.counts) co.is
-
-        is_entry : {l w : List ℕ} {a : Ground} → Is s o l w a → Is s₃ o₁ l w (say (place_b (record { number = v; from = s.at })) a)
+      module _ {x : Wrote} {o o₁ : List ℕ} {n₂ : ℕ} (put : Put s.wrote (num_b v) o x o₁) where
+        is_entry : {l w : List ℕ} {a : Ground} → Is s o l w a → Is (behind x n₂) o₁ l w (say (place_b (record { number = v; from = s.at })) a)
         unfolding place_b
         is_entry {w = w} {a} i =
             let d = more c u f in
-            let q : s₁.counts ≡ s.counts = ap (λ (z : Walk). z.counts) wr.is in
-            let le : s₁.counts.entries ≤ k.entries = omega (arith, ap (λ (z : K.Counts). z.entries) q, d.entries) in
-            moved (Writing.counted (wrote i put wr) a.rest le refl refl refl (λ y. y) (λ y m. marks_on d (subst (λ (z : K.Counts). Marks z w a.rest) q m)) co) mv
+            moved (Writing.counted (wrote i put (record { is = refl })) a.rest (omega (arith, d.entries)) refl refl refl (λ y. y) (λ y m. marks_on d m) (record { is = refl })) (record { is = refl })
 
-        module _ {m₂ : Read} (tag : Gives (below 2) t n m₂) {tg : ℕ} (z : m₂ ≡ Number tg n₂) where
-          pub entry_nameless : {kind : ℕ} {r : Walk} {o' w : List ℕ} → (tg ≡ 0 → ⊥) → ((l w : List ℕ) → Walks t read_poison (say_poison 1) s₃ o₁ l w r o' l w) → NamesEntry kind t s o w (E.Nameless r) o' w
-          unfolding walk_of declare_maybe maybe_b S.ret
+        module _ {m₂ : Result (ℕ × ℕ) Refusal} (tag : Gives (below 2) t n m₂) {tg : ℕ} (z : m₂ ≡ Ok (tg, n₂)) where
+          pub entry_nameless : {kind : ℕ} {r : Walk} {o' w : List ℕ} → (tg ≡ 0 → ⊥) → ((l w : List ℕ) → Walks t read_poison (say_poison 1) (behind x n₂) o₁ l w r o' l w) → NamesEntry kind t s o w r None o' w
+          unfolding declare_maybe maybe_b S.ret
           entry_nameless {w = w} ne k₁ = record {
-            does = λ q₁ q₂ h l a out i. leads_entry (leads_err tag ident z ne (leads_at here_entry (leads_call _ (k₁ l w) h (is_entry i) λ y _ i₁.
-                leads_got (err y) (entered_at _ a (record { did = record { cur = refl; is = i₁ }; told = λ _. nameless; read = λ u b. absurd (let q : ◌≡◌ {A = ℕ} 0 1 = cc in omega arith) })))));
+            does = λ q₁ q₂ h l a out i. leads_entry (leads_err tag ident z ne (leads_call _ (k₁ l w) h (is_entry i) λ y _ i₁.
+                leads_got (err y) (entered_at _ a (record { did = record { cur = refl; is = i₁ }; told = λ _. nameless }))));
           }
 
-          pub entry_declared : {kind : ℕ} {w : List ℕ} {r : Entry} {o' w' : List ℕ} → tg ≡ 0 → DeclaresEntry kind t s₃ o₁ w r o' w' → NamesEntry kind t s o w r o' w'
+          pub entry_declared : {kind : ℕ} {w : List ℕ} {r : Walk} {name : Option ℕ} {o' w' : List ℕ} → tg ≡ 0 → DeclaresEntry kind t (behind x n₂) o₁ w r name o' w' → NamesEntry kind t s o w r name o' w'
           entry_declared eq k₁ = record {
             does = λ q₁ q₂ h l a out i.
                 let d = more c u f in
-                let cs = ap (λ (z : K.Counts). z.entries) counts_entry in
-                leads_entry (leads_ok tag ident z eq (leads_at here_entry (leads_bind ident _ λ y b j.
-                leads_got (ok y) (entered_at _ a ((k₁.does q₁ q₂ h l _ (λ y. record { is = (out (record { few = y.few; fit = y.fit })).is }) (omega (arith, d.few, cs)) (λ y. omega (arith, d.entries, cs, (i.when (record { few = y.few; fit = y.fit })).tables.entries)) (is_entry i)).to y b j)))));
+                leads_entry (leads_ok tag ident z eq (leads_bind ident _ λ y b j.
+                leads_got (ok y) (entered_at _ a ((k₁.does q₁ q₂ h l _ (λ y. record { is = (out (record { few = y.few; fit = y.fit })).is }) d.few (λ y. omega (arith, d.entries, (i.when (record { few = y.few; fit = y.fit })).tables.entries)) (is_entry i)).to y b j))));
           }

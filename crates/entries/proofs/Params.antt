@@ -1,9 +1,12 @@
 -- Parameters and members, each with its type, and lists of them.
 use mathlib.Core.Path.{◌≡◌, refl, sym, ap, subst, ◌∙◌}
-use mathlib.Core.Bool.{Bool, true, false}
+use mathlib.Core.Bool.{true, false}
 use mathlib.Core.List.{List, [], ◌∷◌, ◌++◌, append_assoc, append-nil, flat_map}
 use mathlib.Core.Option.{some}
-use Prim.Native.Nat.{ℕ, zero, suc, ◌-◌, ◌≤◌, ◌<◌}
+use Rattle.std.specs.Prelude.{Result, Ok, Err}
+use Rattle.fields.specs.declared.refusal.Refusal.{Refusal}
+use Rattle.std.specs.Prelude.{Option, Some, None}
+use Prim.Native.Nat.{ℕ, suc, ◌+◌, ◌-◌, ◌≤◌, ◌<◌}
 use native.Mathlib.Omega.{arith}
 use lib.ListN.{length}
 use Rattle.penne.specs.Reader.{Cur, got, Reader, ◌>>=◌, ret, num, many, listed, an_entry, counting}
@@ -15,8 +18,6 @@ use Rattle.penne.specs.Containers.{Container}
 use Rattle.penne.specs.Scopes.{Analyzer, Pass}
 use Rattle.penne.specs.Variables.{analyze_maybe_type, declare_maybe, in_turn, analyze_param, analyze_wellfoundedness, analyze_member}
 use Rattle.penne.proofs.IdsPass.{still_maybe, still_found, grown_declare}
-use Rattle.fields.specs.declared.number.Read.{Read}
-use Rattle.fields.specs.declared.number.Read.TheVariants.{Number, Refused}
 use Rattle.fields.specs.Answers.{Gives, poison_names, poison_places}
 use Rattle.fields.proofs.Chain.{reads}
 use Rattle.fields.proofs.Back.{many_length}
@@ -25,18 +26,14 @@ use Rattle.answer.specs.Out.{Put}
 use Rattle.containers.specs.Table.{at}
 use Rattle.walk.specs.declared.state.Walk.{Walk}
 use Rattle.walk.specs.declared.edges.Holder.{Holder}
-use Rattle.entries.specs.declared.Holding.{Holding}
-use Rattle.entries.specs.declared.Holding.TheVariants as H
-use Rattle.walk.specs.Walking.{Moves, Writes, here, Ground, Good, Is, onward, say, Did, Leads, Input, Walks}
+use Rattle.walk.specs.Walking.{moved_to, with_wrote, here, Ground, Good, Is, onward, say, Did, Leads, Input, Walks}
 use Rattle.walk.specs.Calls.{the_member}
 use Rattle.entries.specs.Entering.{Stays, stays, goes, held_by, Decides}
-use Rattle.walk.proofs.Loops.{Kept, kept_start, kept_more}
+use Rattle.walk.proofs.Loops.{Kept, kept_more}
 use Rattle.walk.proofs.Leading.{leads_bind, leads_read, leads_unread, leads_call, leads_end, leads_got, is_same, bind_is, leads_at}
-use Rattle.walk.proofs.Writing.{here_after, moved, wrote}
+use Rattle.walk.proofs.Writing.{moved, wrote}
 use Rattle.types.specs.Typing.{analyze_contained, Contains}
-use Rattle.entries.specs.declared.Entry.{Entry}
-use Rattle.entries.specs.declared.Entry.TheVariants as E
-use Rattle.entries.specs.Entering.{Outside, InStructure, Under, param_walk, member_walk, analyze_held, TypesMember, walk_of, Names, named, nameless, place_and_name, placed_b, NamesEntry}
+use Rattle.entries.specs.Entering.{Outside, InStructure, Under, param_walk, member_walk, analyze_held, TypesMember, Names, named, nameless, place_and_name, placed_b, NamesEntry}
 use Rattle.entries.proofs.Staying.{inside_name, outside_param, inside_member}
 
 -- PLACE AND NAME, AND THEN THE REST
@@ -53,14 +50,15 @@ leads_named f {t} {c} k next = leads_bind _ _ λ p d g. leads_bind _ _ λ i e h.
 abbrev anybody : ℕ → Ident Spot
 anybody n = record { name = 0; place = record { number = n; from = 0 }; id = 0; auth = 0 }
 
--- the member as it is told: it has its name, or was refused
-told_named : {v : Entry} {y : Maybe Spot (Ident Spot)} {s : Walk} {p : ℕ} → v ≡ E.Named s p → Names v y → (i : Ident Spot) × Stays i true y × (p ≡ i.place.number)
-told_named {p = p} e (named {p = q} {i = i} h) = let z : q ≡ p = cc in (i, stays, sym z ∙ h)
-told_named e nameless = absurd (let z : ◌≡◌ {A = ℕ} 0 1 = cc in omega arith)
+-- the member as it is told: its name has that place, or was refused
+told_is : {name : Option ℕ} {y : Maybe Spot (Ident Spot)} → Names name y → (i : Ident Spot) × Stays i name y × ((p : ℕ) → name ≡ Some p → p ≡ i.place.number)
+told_is (named {p} {i} h) = (i, stays, λ q e. let z : p ≡ q = cc in sym z ∙ h)
+told_is nameless = (anybody 0, goes, λ q e. absurd (let z : ◌≡◌ {A = ℕ} 0 1 = cc in omega arith))
 
-told_nameless : {v : Entry} {y : Maybe Spot (Ident Spot)} {s : Walk} → v ≡ E.Nameless s → Names v y → (i : Ident Spot) × Stays i false y × (0 ≡ i.place.number)
-told_nameless e (named h) = absurd (let z : ◌≡◌ {A = ℕ} 0 1 = cc in omega arith)
-told_nameless e nameless = (anybody 0, goes, refl)
+-- one who was declared at the place of that name
+someone : (name : Option ℕ) → (i : Ident Spot) × ((p : ℕ) → name ≡ Some p → p ≡ i.place.number)
+someone (Some q) = (anybody q, λ p e. cc)
+someone None = (anybody 0, λ p e. absurd (let z : ◌≡◌ {A = ℕ} 0 1 = cc in omega arith))
 
 -- THE BYTES
 
@@ -80,7 +78,7 @@ member_by : (c : Ident Spot) (p : Spot) (x : Maybe Spot (Ident Spot)) (y : Maybe
 unfolding analyze_member analyze_param param_b S.◌>>=◌ S.ret
 member_by c p x y a = refl
 
-member_held_is : (by : Holding) (c i : Ident Spot) (p : Spot) (x : Maybe Spot (Ident Spot)) (y : Maybe Spot (Ty Spot)) (a : Ground) → ((u : Maybe Spot (Ty Spot)) → held_by by c i u ≡ analyze_wellfoundedness c (declare_maybe 6 x a.st).0 u)
+member_held_is : (by : Option Holder) (c i : Ident Spot) (p : Spot) (x : Maybe Spot (Ident Spot)) (y : Maybe Spot (Ty Spot)) (a : Ground) → ((u : Maybe Spot (Ty Spot)) → held_by by c i u ≡ analyze_wellfoundedness c (declare_maybe 6 x a.st).0 u)
     → onward (analyze_held by c i) (maybe_b ty_b) y (onward (declare_maybe 6) (placed_b p) x a) ≡ member_walk c (record { place = p; ident = x; type = y }) a
 unfolding analyze_held S.◌>>=◌
 member_held_is by c i p x y a e =
@@ -118,71 +116,52 @@ name_ids k (err z) a = omega arith
 good_before : (k : ℕ) (p : Spot) (x : Maybe Spot (Ident Spot)) (a : Ground) → Good (onward (declare_maybe k) (placed_b p) x a) → Good a
 good_before k p x a z = record { few = omega (arith, z.few, name_ids k x a.st); fit = z.fit }
 
-module _ {t : List ℕ} {s : Walk} {o l w : List ℕ} {v : Entry} {o₁ w₁ : List ℕ} where
-  pub parameter_unread : {u r : Walk} {o' l' w' : List ℕ} → NamesEntry 5 t s o w v o₁ w₁ → v ≡ E.Unread u → Under Outside t (read_param 63 false) param_walk s o l w r o' l' w'
+module _ {t : List ℕ} {s : Walk} {o l w : List ℕ} {s₁ : Walk} {name : Option ℕ} {o₁ w₁ : List ℕ} {r : Walk} {o₂ w₂ : List ℕ} where
+  pub parameter_typed : NamesEntry 5 t s o w s₁ name o₁ w₁ → Walks t (maybe (read_ty 63 false)) (onward analyze_maybe_type (maybe_b ty_b)) s₁ o₁ l w₁ r o₂ l w₂ → Under Outside t (read_param 63 false) param_walk s o l w r o₂ l w₂
   unfolding read_param poison_names poison_places poison_fields
-  parameter_unread k e = record { does = λ h a out i. leads_named _ (k.does refl refl h l a out i) λ p x d z. absurd (z.read _ e) }
-
-  pub parameter_typed : {s₁ r : Walk} {o₂ w₂ : List ℕ} → NamesEntry 5 t s o w v o₁ w₁ → walk_of v ≡ s₁ → Walks t (maybe (read_ty 63 false)) (onward analyze_maybe_type (maybe_b ty_b)) s₁ o₁ l w₁ r o₂ l w₂ → Under Outside t (read_param 63 false) param_walk s o l w r o₂ l w₂
-  unfolding read_param poison_names poison_places poison_fields
-  parameter_typed k e kt = record {
+  parameter_typed k kt = record {
     does = λ h a out i. leads_named _ (k.does refl refl h l a out i) λ p x d z.
-        leads_at (sym (z.did.cur ∙ ap here e)) (leads_call _ kt h (subst (λ (y : Walk). Is y o₁ l w₁ (onward (declare_maybe 5) (placed_b p) x a)) e z.did.is) λ y _ i₁.
+        leads_at (sym z.did.cur) (leads_call _ kt h z.did.is λ y _ i₁.
         leads_end (record { place = p; ident = x; type = y }) refl i₁ λ _. param_is 5 p x y a);
   }
 
   -- ONE MEMBER
 
-  module _ {row : ℕ} {c : Ident Spot} (k : NamesEntry 6 t s o w v o₁ w₁) where
-    pub member_unread : {u r : Walk} {o' l' w' : List ℕ} → v ≡ E.Unread u → Under (InStructure row c) t (read_param 63 true) (member_walk c) s o l w r o' l' w'
-    unfolding read_param poison_names poison_places poison_fields
-    member_unread e = record { does = λ h a out i. leads_named _ (k.does refl refl h l a (λ z. (out z).outside) i) λ p x d z. absurd (z.read _ e) }
-
-    -- its type, held as is decided by its name
-    typed_by : {named : Bool} {pl : ℕ} {s₁ : Walk} {by : Holding} {r : Walk} {o₂ w₂ : List ℕ} → walk_of v ≡ s₁ → ((y : Maybe Spot (Ident Spot)) → Names v y → (i : Ident Spot) × Stays i named y × (pl ≡ i.place.number)) → Decides named row pl by → TypesMember t by s₁ o₁ l w₁ r o₂ l w₂
-        → Under (InStructure row c) t (read_param 63 true) (member_walk c) s o l w r o₂ l w₂
-    unfolding read_param poison_names poison_places poison_fields
-    typed_by {pl = pl} {s₁} {by} {r} {o₂} {w₂} q told d kt = record {
-      does = λ h a out i. leads_named _ (k.does refl refl h l a (λ z. (out z).outside) i) λ p x b z.
-          let a₁ : Ground = onward (declare_maybe 6) (placed_b p) x a in
-          let i₁ : Is s₁ o₁ l w₁ a₁ = subst (λ (y : Walk). Is y o₁ l w₁ a₁) q z.did.is in
-          let in₁ : Good a₁ → InStructure row c a₁ = λ g. inside_name 6 x _ a (out (good_before 6 p x a g)) in
-          let at_row : (e : Holder) → by ≡ H.By e → e.row ≡ row = λ e n. ap (λ (y : Holder). y.row) (d.holder e n) in
-          let goes_on : (m : Ident Spot) → pl ≡ m.place.number → Leads (maybe (read_ty 63 true)) t (here s₁) (λ y d. Did d (onward (analyze_held by c m) (maybe_b ty_b) y a₁) r o₂ l w₂) = λ m n. kt.does h c m a₁ (record {
-            member = λ e u. the_member (ap (λ (y : Holder). y.is_member) (d.holder e u)) (ap (λ (y : Holder). y.member) (d.holder e u) ∙ n);
-            low = λ e u g. omega (arith, at_row e u, (in₁ g).low, (i₁.when g).tables.containers.counted);
-            is = λ e u g. row_at e a₁.st.containment.containers (at_row e u) (in₁ g).is;
-          }) i₁ in
-          leads_at (sym (z.did.cur ∙ ap here q)) (leads_bind _ _ λ y f g. leads_got (record { place = p; ident = x; type = y }) (record {
-            cur = ((goes_on (anybody pl) refl).to y f g).cur;
-            is = is_when λ u. let m = told _ (z.told (good_name c p x y a u)) in is_same (λ _. member_held_is by c m.0 p x y a (d.edges c m.0 _ m.1)) ((goes_on m.0 m.2).to y f g).is;
-          }));
-    }
-
-    module _ {s₁ : Walk} {by : Holding} {r : Walk} {o₂ w₂ : List ℕ} where
-      pub member_named : {pl : ℕ} → v ≡ E.Named s₁ pl → Decides true row pl by → TypesMember t by s₁ o₁ l w₁ r o₂ l w₂ → Under (InStructure row c) t (read_param 63 true) (member_walk c) s o l w r o₂ l w₂
-      unfolding walk_of
-      member_named e d kt = typed_by (ap walk_of e) (λ y. told_named e) d kt
-
-      pub member_nameless : v ≡ E.Nameless s₁ → Decides false row 0 by → TypesMember t by s₁ o₁ l w₁ r o₂ l w₂ → Under (InStructure row c) t (read_param 63 true) (member_walk c) s o l w r o₂ l w₂
-      unfolding walk_of
-      member_nameless e d kt = typed_by (ap walk_of e) (λ y. told_nameless e) d kt
+  -- its type, held as is decided by its name
+  pub member_typed : {row : ℕ} {c : Ident Spot} {by : Option Holder} → NamesEntry 6 t s o w s₁ name o₁ w₁ → Decides name row by → TypesMember t by s₁ o₁ l w₁ r o₂ l w₂ → Under (InStructure row c) t (read_param 63 true) (member_walk c) s o l w r o₂ l w₂
+  unfolding read_param poison_names poison_places poison_fields
+  member_typed {row} {c} {by} k d kt = record {
+    does = λ h a out i. leads_named _ (k.does refl refl h l a (λ z. (out z).outside) i) λ p x b z.
+        let a₁ : Ground = onward (declare_maybe 6) (placed_b p) x a in
+        let i₁ : Is s₁ o₁ l w₁ a₁ = z.did.is in
+        let in₁ : Good a₁ → InStructure row c a₁ = λ g. inside_name 6 x _ a (out (good_before 6 p x a g)) in
+        let at_row : (e : Holder) → by ≡ Some e → e.row ≡ row = λ e n. ap (λ (y : Holder). y.row) (d.holder e n).2 in
+        let goes_on : (m : Ident Spot) → ((q : ℕ) → name ≡ Some q → q ≡ m.place.number) → Leads (maybe (read_ty 63 true)) t (here s₁) (λ y d. Did d (onward (analyze_held by c m) (maybe_b ty_b) y a₁) r o₂ l w₂) = λ m n. kt.does h c m a₁ (record {
+          member = λ e u. let v = d.holder e u in the_member (ap (λ (y : Holder). y.member) v.2 ∙ ap Some (n v.0 v.1));
+          low = λ e u g. omega (arith, at_row e u, (in₁ g).low, (i₁.when g).tables.containers.counted);
+          is = λ e u g. row_at e a₁.st.containment.containers (at_row e u) (in₁ g).is;
+        }) i₁ in
+        leads_at (sym z.did.cur) (leads_bind _ _ λ y f g. leads_got (record { place = p; ident = x; type = y }) (record {
+          cur = let m = someone name in ((goes_on m.0 m.1).to y f g).cur;
+          is = is_when λ u. let m = told_is (z.told (good_name c p x y a u)) in is_same (λ _. member_held_is by c m.0 p x y a (d.edges c m.0 _ m.1)) ((goes_on m.0 m.2).to y f g).is;
+        }));
+  }
 
 -- A MEMBER'S TYPE
 
-held_is : {by : Holding} {h : Holder} → by ≡ H.By h → (c i : Ident Spot) (x : Maybe Spot (Ty Spot)) (a : Ground) → onward (analyze_contained c (some i)) (maybe_b ty_b) x a ≡ onward (analyze_held by c i) (maybe_b ty_b) x a
+held_is : {by : Option Holder} {h : Holder} → by ≡ Some h → (c i : Ident Spot) (x : Maybe Spot (Ty Spot)) (a : Ground) → onward (analyze_contained c (some i)) (maybe_b ty_b) x a ≡ onward (analyze_held by c i) (maybe_b ty_b) x a
 unfolding analyze_held analyze_contained held_by S.◌>>=◌
-held_is e c i x a = sym (ap (λ (b : Holding). onward (analyze_held b c i) (maybe_b ty_b) x a) e)
+held_is e c i x a = sym (ap (λ (b : Option Holder). onward (analyze_held b c i) (maybe_b ty_b) x a) e)
 
-alone_is : {by : Holding} → by ≡ H.Nobody → (c i : Ident Spot) (x : Maybe Spot (Ty Spot)) (a : Ground) → onward analyze_maybe_type (maybe_b ty_b) x a ≡ onward (analyze_held by c i) (maybe_b ty_b) x a
+alone_is : {by : Option Holder} → by ≡ None → (c i : Ident Spot) (x : Maybe Spot (Ty Spot)) (a : Ground) → onward analyze_maybe_type (maybe_b ty_b) x a ≡ onward (analyze_held by c i) (maybe_b ty_b) x a
 unfolding analyze_held held_by S.◌>>=◌ S.ret
-alone_is e c i x a = sym (ap (λ (b : Holding). onward (analyze_held b c i) (maybe_b ty_b) x a) e)
+alone_is e c i x a = sym (ap (λ (b : Option Holder). onward (analyze_held b c i) (maybe_b ty_b) x a) e)
 
-module _ {t : List ℕ} {by : Holding} {s : Walk} {o l w : List ℕ} {r : Walk} {o₁ w₁ : List ℕ} where
-  pub type_held : {h : Holder} → by ≡ H.By h → Contains t (maybe (read_ty 63 true)) h s o l w r o₁ l w₁ → TypesMember t by s o l w r o₁ l w₁
+module _ {t : List ℕ} {by : Option Holder} {s : Walk} {o l w : List ℕ} {r : Walk} {o₁ w₁ : List ℕ} where
+  pub type_held : {h : Holder} → by ≡ Some h → Contains t (maybe (read_ty 63 true)) h s o l w r o₁ l w₁ → TypesMember t by s o l w r o₁ l w₁
   type_held {h} e k = record { does = λ u c i a z is. record { to = λ x d g. let y = (k.does u c (some i) (z.member h e) a (z.low h e) (z.is h e) is).to x d g in record { cur = y.cur; is = is_same (λ _. held_is e c i x a) y.is } } }
 
-  pub type_alone : by ≡ H.Nobody → Walks t (maybe (read_ty 63 true)) (onward analyze_maybe_type (maybe_b ty_b)) s o l w r o₁ l w₁ → TypesMember t by s o l w r o₁ l w₁
+  pub type_alone : by ≡ None → Walks t (maybe (read_ty 63 true)) (onward analyze_maybe_type (maybe_b ty_b)) s o l w r o₁ l w₁ → TypesMember t by s o l w r o₁ l w₁
   type_alone e k = record { does = λ u c i a z is. record { to = λ x d g. let y = (k.does u a is).to x d g in record { cur = y.cur; is = is_same (λ _. alone_is e c i x a) y.is } } }
 
 -- LISTS
@@ -205,25 +184,22 @@ pub record GoingUnder {A C : Type 0} (P : C → Ground → Type 0) (t : List ℕ
   pub kept : Kept o₀ o₀ w₀ o o w
   pub on : (c : C) (l : List ℕ) (r : Walk) (o' w' : List ℕ) → Under (P c) t (many m rest) (fs c) s o l w r o' l w' → Under (P c) t (many m n) (fs c) s₀ o₀ l w₀ r o' l w'
 
-pub under_start : {A C : Type 0} {P : C → Ground → Type 0} {t : List ℕ} {m : Reader A} {fs : C → List A → Ground → Ground} {n : ℕ} {s : Walk} {o w : List ℕ} → GoingUnder P t m fs n s o w n s o w
-under_start = record { kept = kept_start; on = λ c l r o' w' k. k }
-
 module _ {A C : Type 0} {P : C → Ground → Type 0} {f : C → A → Ground → Ground} {fs : C → List A → Ground → Ground} (how : ListedUnder P f fs) {t : List ℕ} {m : Reader A} where
   one_more : (n : ℕ) (c : C) {s : Walk} {o l w : List ℕ} {s₁ : Walk} {o₁ l₁ w₁ : List ℕ} {r : Walk} {o' l' w' : List ℕ} → Under (P c) t m (f c) s o l w s₁ o₁ l₁ w₁ → Under (P c) t (many m n) (fs c) s₁ o₁ l₁ w₁ r o' l' w'
       → Under (P c) t (many m (suc n)) (fs c) s o l w r o' l' w'
   unfolding many
   one_more n c k j = record { does = λ h a p i. leads_under _ k h p i λ x g i₁. leads_under _ j h (how.keeps c x a p) i₁ λ xs g₁ i₂. leads_end (x ∷ xs) refl i₂ λ _. how.cons_is c x xs a }
 
-  pub under_more : {n : ℕ} {s₀ : Walk} {o₀ w₀ : List ℕ} {rest : ℕ} {s : Walk} {o w : List ℕ} {s₁ : Walk} {o₁ w₁ : List ℕ} → GoingUnder P t m fs n s₀ o₀ w₀ rest s o w → (rest ≡ 0 → ⊥) → ((c : C) (l : List ℕ) → Under (P c) t m (f c) s o l w s₁ o₁ l w₁)
-      → length o₁ ≡ length o → length w₁ ≡ length w → GoingUnder P t m fs n s₀ o₀ w₀ (rest - 1) s₁ o₁ w₁
-  under_more {rest = zero} g z k a b = absurd (z refl)
-  under_more {rest = suc j} {s₁ = s₁} {o₁} {w₁} g z k a b =
-      let q : suc j - 1 ≡ j = omega arith in
-      record { kept = kept_more g.kept a a b; on = λ c l r o' w' i. g.on c l r o' w' (one_more j c (k c l) (subst (λ (x : ℕ). Under (P c) t (many m x) (fs c) s₁ o₁ l w₁ r o' l w') q i)) }
+  -- k of the n items are walked
+  module _ {n : ℕ} {s₀ : Walk} {o₀ w₀ : List ℕ} {k : ℕ} {s : Walk} {o w : List ℕ} (g : GoingUnder P t m fs n s₀ o₀ w₀ (n - k) s o w) where
+    pub under_more : {s₁ : Walk} {o₁ w₁ : List ℕ} → k < n → ((c : C) (l : List ℕ) → Under (P c) t m (f c) s o l w s₁ o₁ l w₁) → length o₁ ≡ length o → length w₁ ≡ length w → GoingUnder P t m fs n s₀ o₀ w₀ (n - (k + 1)) s₁ o₁ w₁
+    under_more h i a b =
+        let q : suc (n - (k + 1)) ≡ n - k = omega arith in
+        record { kept = kept_more g.kept a a b; on = λ c l r o' w' j. g.on c l r o' w' (subst (λ (rest : ℕ). Under (P c) t (many m rest) (fs c) s o l w r o' l w') q (one_more (n - (k + 1)) c (i c l) j)) }
 
-  pub under_done : {n : ℕ} {s₀ : Walk} {o₀ w₀ : List ℕ} {rest : ℕ} {s : Walk} {o w : List ℕ} → GoingUnder P t m fs n s₀ o₀ w₀ rest s o w → rest ≡ 0 → (c : C) (l : List ℕ) → Under (P c) t (many m n) (fs c) s₀ o₀ l w₀ s o l w
-  unfolding many
-  under_done {s = s} {o} {w} g z c l = g.on c l s o w (rw z (record { does = λ h a p i. leads_end [] refl i λ _. how.nil_is c a }))
+    pub under_done : n ≤ k → (c : C) (l : List ℕ) → Under (P c) t (many m n) (fs c) s₀ o₀ l w₀ s o l w
+    unfolding many
+    under_done h c l = let z : n - k ≡ 0 = omega arith in g.on c l s o w (rw z (record { does = λ h a p i. leads_end [] refl i λ _. how.nil_is c a }))
 
 -- the items without their count
 abbrev items_walk : (Param Spot → Pass Spot (Param Spot)) → List (Param Spot) → Ground → Ground
@@ -246,21 +222,21 @@ list_is : (p : Param Spot → Pass Spot (Param Spot)) (n : ℕ) (xs : List (Para
 unfolding list_b
 list_is p n xs a e = ap (λ (ys : List ℕ). record { out = ys; st = (in_turn p xs a.st).1; rest = a.rest }) (append_assoc a.out _ _ ∙ ap (λ (j : ℕ). a.out ++ (num_b j ++ flat_map param_b (in_turn p xs a.st).0)) (sym e ∙ sym (items_long p xs a.st)))
 
-module _ {P : Ground → Type 0} (p : Param Spot → Pass Spot (Param Spot)) (m : Reader (Param Spot)) {t : List ℕ} {s : Walk} {m₁ : Read} (g : Gives num t s.at m₁) {o l w : List ℕ} {r : Walk} {o' l' w' : List ℕ} where
-  pub list_unread : {i at : ℕ} → m₁ ≡ Refused i at → Under P t (listed m) (onward (in_turn p) (list_b param_b)) s o l w r o' l' w'
+module _ {P : Ground → Type 0} (p : Param Spot → Pass Spot (Param Spot)) (m : Reader (Param Spot)) {t : List ℕ} {s : Walk} {m₁ : Result (ℕ × ℕ) Refusal} (g : Gives num t s.at m₁) {o l w : List ℕ} {r : Walk} {o' l' w' : List ℕ} where
+  pub list_unread : {x : Refusal} → m₁ ≡ Err x → Under P t (listed m) (onward (in_turn p) (list_b param_b)) s o l w r o' l' w'
   unfolding listed
   list_unread e = record { does = λ h a q i. leads_unread _ (reads g) e }
 
   -- the count was written, then the items
-  pub list_walked : {n at : ℕ} {x : Wrote} {o₁ : List ℕ} {s₁ s₂ : Walk} → ((a b : Ground) → a.st ≡ b.st → P a → P b) → m₁ ≡ Number n at → Put s.wrote (num_b n) o x o₁ → Writes s x s₁ → Moves s₁ at s₂ → Under P t (many m n) (items_walk p) s₂ o₁ l w r o' l' w'
+  pub list_walked : {n at : ℕ} {x : Wrote} {o₁ : List ℕ} → ((a b : Ground) → a.st ≡ b.st → P a → P b) → m₁ ≡ Ok (n, at) → Put s.wrote (num_b n) o x o₁ → Under P t (many m n) (items_walk p) (moved_to (with_wrote s x) at) o₁ l w r o' l' w'
       → Under P t (listed m) (onward (in_turn p) (list_b param_b)) s o l w r o' l' w'
   unfolding listed
-  list_walked {n} {at} {s₂ = s₂} says e put wr mv k = record {
-    does = λ h a q i. leads_read _ (reads g) e (leads_at (here_after wr mv) (record {
+  list_walked {n} says e put k = record {
+    does = λ h a q i. leads_read _ (reads g) e (record {
       to = λ xs d j.
-          let z = (k.does h (say (num_b n) a) (λ y. says a (say (num_b n) a) refl (q (record { few = y.few; fit = y.fit }))) (moved (wrote i put wr) mv)).to xs d j in
-          record { cur = z.cur; is = is_same (λ _. list_is p n xs a (many_length m n t (here s₂) j)) z.is };
-    }));
+          let z = (k.does h (say (num_b n) a) (λ y. says a (say (num_b n) a) refl (q (record { few = y.few; fit = y.fit }))) (moved (wrote i put (record { is = refl })) (record { is = refl }))).to xs d j in
+          record { cur = z.cur; is = is_same (λ _. list_is p n xs a (many_length m n t _ j)) z.is };
+    });
   }
 
 -- PARAMETERS

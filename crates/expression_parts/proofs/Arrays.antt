@@ -1,5 +1,5 @@
 -- An array: its elements in a scope of their own, and then the next id.
-use mathlib.Core.Path.{◌≡◌, sym, ap, ◌∙◌}
+use mathlib.Core.Path.{◌≡◌, refl, sym, ap, ◌∙◌}
 use mathlib.Core.List.{List, [], ◌++◌, append_assoc, append-nil}
 use Prim.Native.Nat.{ℕ}
 use native.Mathlib.Omega.{arith}
@@ -37,8 +37,8 @@ module _ (es : List (Expr Spot)) (xs : List ℕ) (a : Ground) where
   unfolding nodes with_stack
   elements_good z = let few = z.few in let le = (still_node (to_nodes es) (opening (say xs a)).st).takes.lower in record { few = omega arith; fit = z.fit }
 
-  pub elements_closed : {s outer : Walk} {w : List ℕ} {r : Walk} {w' : List ℕ} {o l o₀ l₀ w₀ : List ℕ} → Closes s outer w r w' → Is outer o₀ l₀ w₀ a → Is s o l w (list_walk es (opening (say xs a))) → Is r o l w' (closing a (list_walk es (opening (say xs a))))
-  elements_closed c i₀ i = c.is i₀ i elements_grow elements_good
+  pub elements_closed : {s outer : Walk} {w : List ℕ} {r : Walk} {w' : List ℕ} {o l o₀ l₀ w₀ : List ℕ} → Closes s outer.tables.scope w r w' → Is outer o₀ l₀ w₀ a → Is s o l w (list_walk es (opening (say xs a))) → Is r o l w' (closing a (list_walk es (opening (say xs a))))
+  elements_closed c i₀ i = c.is refl i₀ i elements_grow elements_good
 
 pub array_literal_is : {t : List ℕ} {from to : ℕ} (a : Ground) (p : Spot) (c : Carried Spot) (es : List (Expr Spot)) (n : ℕ) → Spells t from to (place_b p ++ carried_b c)
     → array_number n (closing a (list_walk es (opening (say (num_b 6 ++ renumbered t from to) a)))) ≡ onward analyze_node node_b (array_literal p c (to_nodes es) n) a

@@ -1,4 +1,3 @@
-pub mod Heading
 pub mod Onward
 pub mod Arms
 pub mod ByKind

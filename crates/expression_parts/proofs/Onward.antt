@@ -17,7 +17,7 @@ use Rattle.answer.specs.Out.{Put}
 use Rattle.walk.specs.declared.state.Walk.{Walk}
 use Rattle.walk.specs.Walking.{Moves, Writes, here, Rest, Ground, Is, onward, say, Did, Leads, Input, Walks}
 use Rattle.walk.proofs.Leading.{is_same, Listed, leads_at}
-use Rattle.walk.proofs.Writing.{here_moved, here_after, moved, wrote}
+use Rattle.walk.proofs.Writing.{here_after, moved, wrote}
 use Rattle.expression_parts.specs.Expressing.{nodes, nodes_b, list_walk}
 
 -- grounds that differ in how their bytes are put together
@@ -30,9 +30,6 @@ pub on : {s : Walk} {o l w : List ℕ} {a : Ground} → Is s o l w a → {xs : L
 on i p e f = moved (wrote i p e) f
 
 module _ {A : Type 0} {t : List ℕ} {m : Reader A} {P : A → Cur → Type 0} where
-  pub leads_moved : {s : Walk} {n : ℕ} {r : Walk} → Moves s n r → Leads m t (here r) P → Leads m t (cursor n s.script.names (counts_of s.counts)) P
-  leads_moved e k = leads_at (here_moved e) k
-
   pub leads_on : {s : Walk} {v : Wrote} {r₁ : Walk} {n : ℕ} {r : Walk} → Writes s v r₁ → Moves r₁ n r → Leads m t (here r) P → Leads m t (cursor n s.script.names (counts_of s.counts)) P
   leads_on e f k = leads_at (here_after e f) k
 

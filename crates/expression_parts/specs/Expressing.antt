@@ -1,5 +1,5 @@
 -- What the functions over expressions promise.
-use Rattle.std.specs.Prelude.{ℕ, ◌≡◌, List, ◌++◌}
+use Rattle.std.specs.Prelude.{ℕ, ◌≡◌, List, ◌++◌, Result, Ok, Err}
 use Rattle.penne.specs.Tree.{Spot, Carried, Kind, one, list_of, Node, Expr, signed, bits}
 use Rattle.penne.specs.Read.{to_nodes}
 use Rattle.penne.specs.Write.{num_b, count, node_b}
@@ -11,10 +11,7 @@ use Rattle.answer.specs.Out.{Put}
 use Rattle.answer.specs.Parts.{renumbered}
 use Rattle.walk.specs.declared.state.Walk.{Walk}
 use Rattle.walk.specs.declared.fault.Fault.{Fault}
-use Rattle.walk.specs.declared.names.Used.{Used}
-use Rattle.walk.specs.declared.names.Used.TheVariants.{As, Not}
-use Rattle.walk.specs.declared.names.Named.{Named}
-use Rattle.walk.specs.Walking.{moved_to, with_wrote, made_b, fault_b, walk_of, used_of, Ground, onward, say}
+use Rattle.walk.specs.Walking.{moved_to, with_wrote, made_b, fault_b, Ground, onward, say}
 
 -- a list of nodes, as it was read
 unfoldable pub nodes : {k : Kind} → List (Node Spot (one k)) → Pass Spot (Node Spot (list_of k))
@@ -47,12 +44,6 @@ abbrev pub refusing : {A : Type 0} → (kind : ℕ) → Fault → A → Ground �
 refusing kind f x a = say (num_b kind ++ fault_b f) a
 
 -- "Maybe identifier", as the name was looked up
-unfoldable pub used_b : Used → List ℕ
-used_b (As i) = num_b 0 ++ made_b i
-used_b (Not f) = num_b 1 ++ fault_b f
-
--- written: so it is written, and the walk is behind it
-pub record Written (n : Named) (at : ℕ) (o : List ℕ) (r : Walk) (o' : List ℕ) : Type 0 where
-  pub wrote : Wrote
-  pub put : Put (walk_of n).wrote (used_b (used_of n)) o wrote o'
-  pub is : r ≡ moved_to (with_wrote (walk_of n) wrote) at
+abbrev pub used_b : Result Identifier Fault → List ℕ
+used_b (Ok i) = num_b 0 ++ made_b i
+used_b (Err f) = num_b 1 ++ fault_b f

@@ -7,180 +7,152 @@ ghost use Rattle.penne.specs.Tree.{Spot, Carried, Expr, expr};
 ghost use Rattle.penne.specs.Read.{ident, maybe, read, read_ty, step_of, read_boolean, read_integer, read_string};
 ghost use Rattle.penne.specs.Write.{ident_b, maybe_b, node_b};
 ghost use Rattle.penne.specs.Variables.{analyze_base, analyze_node};
+ghost use Rattle.answer.specs.Out.{Put};
 ghost use Rattle.walk.specs.Walking.{onward, Walks};
-ghost use Rattle.expression_parts.specs.Expressing.{Headed, Integer, array_number, refusing, Written};
+ghost use Rattle.expression_parts.specs.Expressing.{Headed, Integer, array_number, refusing, used_b};
 
-use answer::copy::{then_copy, then_head, then_numbers};
-use answer::number::then_number;
-use fields::field::{Identified, Identifier, past_identifier, raw, read_identifier};
-use fields::number::{Read, below, number};
+use answer::wrote::Wrote;
+use fields::field::{Identifier, past_identifier, raw, read_identifier};
+use fields::number::{below, number};
 use nodes::node::expression as past_expression;
 use nodes::value_type::carried;
 use walk::fault::Fault;
-use walk::items::{copy_poison, write_fault, write_identifier, write_ok};
-use walk::names::{Named, numbered, use_variable};
+use walk::items::{copy_poison, write_fault, write_ok};
 use walk::state::Walk;
 
-pub fn boolean(tree: &[u8], answer: &mut [u8], st: Walk) -> Walk
-    ensures { (l w : List ℕ) → Walks tree.now read_boolean (onward analyze_node node_b) st answer.old l w result answer.new l w }
+pub fn boolean(tree: &[u8], answer: &mut [u8], st: &mut Walk)
+    ensures { (l w : List ℕ) → Walks tree.now read_boolean (onward analyze_node node_b) st.old answer.old l w st.new answer.new l w }
 {
-    let at = st.at;
-    let value = below(tree, 2, at);
-    let Read::Number(_, a) = value else {
-        return st;
+    let Ok((_, a)) = below(tree, 2, st.at) else {
+        return;
     };
-    let place = number(tree, a);
-    let Read::Number(_, b) = place else {
-        return st;
+    let Ok((_, b)) = number(tree, a) else {
+        return;
     };
-    let w = st.wrote;
-    let x = then_head(answer, w, 2, tree, at, b);
-    st.wrote(x).moved(b)
+    st.wrote = st.wrote.then_head(answer, 2, tree, st.at, b);
+    st.at = b;
 }
 
 // A signed or a bit integer.
-pub fn integer(tree: &[u8], answer: &mut [u8], st: Walk, left: u32, kind: u32) -> Walk
-    ensures { (f : List ℕ → Spot → Carried Spot → Expr Spot) → Integer kind f → (l w : List ℕ) → Walks tree.now (read_integer f (read_ty left false)) (onward analyze_node node_b) st answer.old l w result answer.new l w }
+pub fn integer(tree: &[u8], answer: &mut [u8], st: &mut Walk, left: u32, kind: u32)
+    ensures { (f : List ℕ → Spot → Carried Spot → Expr Spot) → Integer kind f → (l w : List ℕ) → Walks tree.now (read_integer f (read_ty left false)) (onward analyze_node node_b) st.old answer.old l w st.new answer.new l w }
 {
-    let at = st.at;
-    let value = raw(tree, at, 16);
-    let Read::Number(_, a) = value else {
-        return st;
+    let Ok(a) = raw(tree, st.at, 16) else {
+        return;
     };
-    let place = number(tree, a);
-    let Read::Number(_, b) = place else {
-        return st;
+    let Ok((_, b)) = number(tree, a) else {
+        return;
     };
-    let typed = carried(tree, st.script.names, b, left);
-    let Read::Number(_, c) = typed else {
-        return st;
+    let Ok(c) = carried(tree, st.script.names, b, left) else {
+        return;
     };
-    let w = st.wrote;
-    let x = then_number(answer, w, kind);
-    let y = then_copy(answer, x, tree, at, a);
-    let z = then_numbers(answer, y, tree, a, c);
-    st.wrote(z).moved(c)
+    st.wrote = st
+        .wrote
+        .then_number(answer, kind)
+        .then_copy(answer, tree, st.at, a)
+        .then_numbers(answer, tree, a, c);
+    st.at = c;
 }
 
-pub fn string(tree: &[u8], answer: &mut [u8], st: Walk) -> Walk
-    ensures { (l w : List ℕ) → Walks tree.now read_string (onward analyze_node node_b) st answer.old l w result answer.new l w }
+pub fn string(tree: &[u8], answer: &mut [u8], st: &mut Walk)
+    ensures { (l w : List ℕ) → Walks tree.now read_string (onward analyze_node node_b) st.old answer.old l w st.new answer.new l w }
 {
-    let at = st.at;
-    let length = number(tree, at);
-    let Read::Number(n, a) = length else {
-        return st;
+    let Ok((n, a)) = number(tree, st.at) else {
+        return;
     };
-    let text = raw(tree, a, n);
-    let Read::Number(_, b) = text else {
-        return st;
+    let Ok(b) = raw(tree, a, n) else {
+        return;
     };
-    let place = number(tree, b);
-    let Read::Number(p, c) = place else {
-        return st;
+    let Ok((p, c)) = number(tree, b) else {
+        return;
     };
-    let w = st.wrote;
-    let x = then_head(answer, w, 5, tree, at, a);
-    let y = then_copy(answer, x, tree, a, b);
-    let z = then_number(answer, y, p);
-    st.wrote(z).moved(c)
+    st.wrote = st
+        .wrote
+        .then_head(answer, 5, tree, st.at, a)
+        .then_copy(answer, tree, a, b)
+        .then_number(answer, p);
+    st.at = c;
 }
 
-pub fn array_id(tree: &[u8], answer: &mut [u8], st: Walk) -> Walk
-    ensures { (l w : List ℕ) → Walks tree.now num array_number st answer.old l w result answer.new l w }
+pub fn array_id(tree: &[u8], answer: &mut [u8], st: &mut Walk)
+    ensures { (l w : List ℕ) → Walks tree.now num array_number st.old answer.old l w st.new answer.new l w }
 {
-    let at = st.at;
-    let id = number(tree, at);
-    let Read::Number(_, a) = id else {
-        return st;
+    let Ok((_, a)) = number(tree, st.at) else {
+        return;
     };
-    let w = st.wrote;
-    let x = then_number(answer, w, st.tables.next_id);
-    numbered(st.wrote(x).moved(a))
+    st.wrote = st.wrote.then_number(answer, st.tables.next_id);
+    st.at = a;
+    st.create_anonymous_resolution_id();
 }
 
-pub fn past_operand(tree: &[u8], answer: &mut [u8], st: Walk, fault: Fault, left: u32) -> Walk
-    ensures { (l w : List ℕ) → Walks tree.now (read left expr) (refusing 15 fault) st answer.old l w result answer.new l w }
+pub fn past_operand(tree: &[u8], answer: &mut [u8], st: &mut Walk, fault: Fault, left: u32)
+    ensures { (l w : List ℕ) → Walks tree.now (read left expr) (refusing 15 fault) st.old answer.old l w st.new answer.new l w }
 {
-    let at = st.at;
-    let operand = past_expression(tree, st.script.names, at, left);
-    let Read::Number(_, a) = operand else {
-        return st;
+    let Ok(a) = past_expression(tree, st.script.names, st.at, left) else {
+        return;
     };
-    let w = st.wrote;
-    let x = write_fault(answer, w, 15, fault);
-    st.wrote(x).moved(a)
+    st.wrote = write_fault(answer, st.wrote, 15, fault);
+    st.at = a;
 }
 
 // The kind of a call, its name, and the numbers behind it.
 pub fn call_head(
     tree: &[u8],
     answer: &mut [u8],
-    st: Walk,
+    st: &mut Walk,
     kind: u32,
     i: Identifier,
     from: usize,
     to: usize,
-) -> Walk
-    ensures { Headed st kind i tree.now from to answer.old result answer.new }
+)
+    ensures { Headed st.old kind i tree.now from to answer.old st.new answer.new }
 {
-    let w = st.wrote;
-    let x = then_number(answer, w, kind);
-    let y = write_identifier(answer, x, i);
-    let z = then_numbers(answer, y, tree, from, to);
-    st.wrote(z).moved(to)
+    st.wrote = st
+        .wrote
+        .then_number(answer, kind)
+        .then_identifier(answer, i)
+        .then_numbers(answer, tree, from, to);
+    st.at = to;
 }
 
 // The base of a reference.
-pub fn base(tree: &[u8], answer: &mut [u8], list: &mut [u32], work: &mut [u32], st: Walk) -> Walk
-    ensures { Walks tree.now (maybe ident) (onward analyze_base (maybe_b ident_b)) st answer.old list.old work.old result answer.new list.new work.new }
+pub fn base(tree: &[u8], answer: &mut [u8], list: &mut [u32], work: &mut [u32], st: &mut Walk)
+    ensures { Walks tree.now (maybe ident) (onward analyze_base (maybe_b ident_b)) st.old answer.old list.old work.old st.new answer.new list.new work.new }
 {
-    let at = st.at;
-    let tag = below(tree, 2, at);
-    let Read::Number(t, a) = tag else {
-        return st;
+    let Ok((t, a)) = below(tree, 2, st.at) else {
+        return;
     };
     if t != 0 {
-        return copy_poison(tree, answer, st.moved(a), 1);
+        st.at = a;
+        return copy_poison(tree, answer, st, 1);
     }
-    let one = read_identifier(tree, st.script.names, a);
-    let Identified::Is(i, b) = one else {
-        return st;
+    let Ok((i, b)) = read_identifier(tree, st.script.names, a) else {
+        return;
     };
-    let used = use_variable(list, work, st, i, a);
-    written(answer, used, b)
+    let used = st.use_variable(list, work, i, a);
+    st.wrote = write_used(answer, st.wrote, used);
+    st.at = b;
 }
 
-// "Maybe identifier", as the name was looked up; `at` is behind it.
-pub fn written(answer: &mut [u8], named: Named, at: usize) -> Walk
-    ensures { Written named at answer.old result answer.new }
+// "Maybe identifier", as the name was looked up.
+fn write_used(answer: &mut [u8], w: Wrote, used: Result<Identifier, Fault>) -> Wrote
+    ensures { Put w (used_b used) answer.old result answer.new }
 {
-    match named {
-        Named::As(s, i) => {
-            let w = s.wrote;
-            let x = write_ok(answer, w, i);
-            s.wrote(x).moved(at)
-        }
-        Named::Not(s, fault) => {
-            let w = s.wrote;
-            let x = write_fault(answer, w, 1, fault);
-            s.wrote(x).moved(at)
-        }
+    match used {
+        Ok(made) => write_ok(answer, w, made),
+        Err(fault) => write_fault(answer, w, 1, fault),
     }
 }
 
-pub fn member(tree: &[u8], answer: &mut [u8], st: Walk) -> Walk
-    ensures { (l w : List ℕ) → Walks tree.now (step_of (read 0) 1) (onward analyze_node node_b) st answer.old l w result answer.new l w }
+pub fn member(tree: &[u8], answer: &mut [u8], st: &mut Walk)
+    ensures { (l w : List ℕ) → Walks tree.now (step_of (read 0) 1) (onward analyze_node node_b) st.old answer.old l w st.new answer.new l w }
 {
-    let at = st.at;
-    let identifier = past_identifier(tree, st.script.names, at);
-    let Read::Number(_, a) = identifier else {
-        return st;
+    let Ok(a) = past_identifier(tree, st.script.names, st.at) else {
+        return;
     };
-    let offset = number(tree, a);
-    let Read::Number(_, b) = offset else {
-        return st;
+    let Ok((_, b)) = number(tree, a) else {
+        return;
     };
-    let w = st.wrote;
-    let x = then_head(answer, w, 1, tree, at, b);
-    st.wrote(x).moved(b)
+    st.wrote = st.wrote.then_head(answer, 1, tree, st.at, b);
+    st.at = b;
 }

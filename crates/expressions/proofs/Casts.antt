@@ -14,19 +14,19 @@ use Rattle.answer.specs.Out.{Put}
 use Rattle.answer.specs.Parts.{renumbered}
 use Rattle.walk.specs.declared.state.Walk.{Walk}
 use Rattle.walk.specs.declared.fault.Fault.{Fault}
-use Rattle.walk.specs.Walking.{Writes, Ground, Good, Is, onward, silently, say, fault_b, ok_b, Answers}
+use Rattle.walk.specs.Walking.{with_wrote, Ground, Good, Is, onward, silently, say, fault_b, ok_b, Answers}
 use Rattle.walk.proofs.Leading.{told_fine, told_bad}
 use Rattle.walk.proofs.Writing.{out_is, rewound, instead}
 use Rattle.walk.proofs.Copying.{Spells, spells_is}
 use Rattle.expression_parts.proofs.Onward.{out_same}
 
 -- the kind and the places are dropped with what was written of the type
-pub type_rewound : {s : Walk} {o l w : List ℕ} {a : Ground} {s₁ : Walk} {o₁ l₁ w₁ : List ℕ} {r : Walk} (xs : List ℕ) (x : Ty Spot) → Is s o l w a → Is s₁ o₁ l₁ w₁ (onward analyze_type (ok_b ty_b) x (say xs a)) → Writes s₁ s.wrote r → Is r o₁ l₁ w₁ (silently analyze_type x a)
-type_rewound {a = a} xs x i i₁ e = rewound i _ (still_type x a.st).takes.lower (out_is i₁ (append_assoc a.out xs _)) e
+pub type_rewound : {s : Walk} {o l w : List ℕ} {a : Ground} {s₁ : Walk} {o₁ l₁ w₁ : List ℕ} (xs : List ℕ) (x : Ty Spot) → Is s o l w a → Is s₁ o₁ l₁ w₁ (onward analyze_type (ok_b ty_b) x (say xs a)) → Is (with_wrote s₁ s.wrote) o₁ l₁ w₁ (silently analyze_type x a)
+type_rewound {a = a} xs x i i₁ = rewound i _ (still_type x a.st).takes.lower (out_is i₁ (append_assoc a.out xs _)) (record { is = refl })
 
 -- a poison is written in their place
-pub type_instead : {s : Walk} {o l w : List ℕ} {a : Ground} {s₁ : Walk} {o₁ l₁ w₁ : List ℕ} {ys : List ℕ} {v : Wrote} {o₂ : List ℕ} {r : Walk} (xs : List ℕ) (x : Ty Spot) → Is s o l w a → Is s₁ o₁ l₁ w₁ (onward analyze_type (ok_b ty_b) x (say xs a)) → Put s.wrote ys o₁ v o₂ → Writes s₁ v r → Is r o₂ l₁ w₁ (say ys (silently analyze_type x a))
-type_instead {a = a} xs x i i₁ p e = instead i _ (still_type x a.st).takes.lower (out_is i₁ (append_assoc a.out xs _)) p e
+pub type_instead : {s : Walk} {o l w : List ℕ} {a : Ground} {s₁ : Walk} {o₁ l₁ w₁ : List ℕ} {ys : List ℕ} {v : Wrote} {o₂ : List ℕ} (xs : List ℕ) (x : Ty Spot) → Is s o l w a → Is s₁ o₁ l₁ w₁ (onward analyze_type (ok_b ty_b) x (say xs a)) → Put s.wrote ys o₁ v o₂ → Is (with_wrote s₁ v) o₂ l₁ w₁ (say ys (silently analyze_type x a))
+type_instead {a = a} xs x i i₁ p = instead i _ (still_type x a.st).takes.lower (out_is i₁ (append_assoc a.out xs _)) p (record { is = refl })
 
 -- TYPE CASTS
 

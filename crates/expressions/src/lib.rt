@@ -11,16 +11,13 @@ ghost use Rattle.penne.specs.Variables.{analyze_node, analyze_option};
 ghost use Rattle.walk.specs.Walking.{onward, Walks};
 ghost use Rattle.expression_parts.specs.Expressing.{list_walk};
 
-use answer::copy::{then_head, then_numbers};
-use answer::number::then_number;
 use expression_parts::{array_id, base, boolean, call_head, integer, member, past_operand, string};
-use fields::field::{Identified, operator, read_identifier, two_places};
-use fields::number::{Read, below, number};
+use fields::field::{operator, read_identifier, two_places};
+use fields::number::{below, number};
 use fields::poison::maybe_identifier;
 use nodes::value_type::carried;
-use types::{Typed, maybe_type, value_type};
+use types::{maybe_type, value_type};
 use walk::items::{copy_poison, write_fault};
-use walk::names::{Used, closed, opened, use_called};
 use walk::state::Walk;
 
 #[cycle(expressions)]
@@ -29,34 +26,34 @@ pub fn expression(
     answer: &mut [u8],
     list: &mut [u32],
     work: &mut [u32],
-    st: Walk,
+    st: &mut Walk,
     left: u32,
-) -> Walk
-    ensures { Walks tree.now (read left expr) (onward analyze_node node_b) st answer.old list.old work.old result answer.new list.new work.new }
+)
+    ensures { Walks tree.now (read left expr) (onward analyze_node node_b) st.old answer.old list.old work.old st.new answer.new list.new work.new }
 {
-    let at = st.at;
-    let kind = below(tree, 16, at);
-    let Read::Number(k, a) = kind else {
-        return st;
+    let Ok((k, a)) = below(tree, 16, st.at) else {
+        return;
     };
     if left == 0 {
-        return st;
+        return;
     }
-    expression_of(tree, answer, list, work, st.moved(a), left - 1, k)
+    st.at = a;
+    expression_of(tree, answer, list, work, st, left - 1, k);
 }
 
 // What follows an expression's kind.
 #[cycle(expressions)]
+#[tactic(auto, unfolding(penne::specs::Read::expr_of, penne::specs::Read::expr_kinds))]
 fn expression_of(
     tree: &[u8],
     answer: &mut [u8],
     list: &mut [u32],
     work: &mut [u32],
-    st: Walk,
+    st: &mut Walk,
     left: u32,
     kind: u32,
-) -> Walk
-    ensures { Walks tree.now (expr_of (read left) (read_ty left false) (get_or expr_kinds kind k_bad_expr)) (onward analyze_node node_b) st answer.old list.old work.old result answer.new list.new work.new }
+)
+    ensures { Walks tree.now (expr_of (read left) (read_ty left false) (get_or expr_kinds kind k_bad_expr)) (onward analyze_node node_b) st.old answer.old list.old work.old st.new answer.new list.new work.new }
 {
     match kind {
         0 => binary(tree, answer, list, work, st, left),
@@ -84,20 +81,18 @@ fn binary(
     answer: &mut [u8],
     list: &mut [u32],
     work: &mut [u32],
-    st: Walk,
+    st: &mut Walk,
     left: u32,
-) -> Walk
-    ensures { Walks tree.now (read_binary (read left)) (onward analyze_node node_b) st answer.old list.old work.old result answer.new list.new work.new }
+)
+    ensures { Walks tree.now (read_binary (read left)) (onward analyze_node node_b) st.old answer.old list.old work.old st.new answer.new list.new work.new }
 {
-    let at = st.at;
-    let op = operator(tree, at);
-    let Read::Number(_, a) = op else {
-        return st;
+    let Ok(a) = operator(tree, st.at) else {
+        return;
     };
-    let w = st.wrote;
-    let x = then_head(answer, w, 0, tree, at, a);
-    let s = expression(tree, answer, list, work, st.wrote(x).moved(a), left);
-    expression(tree, answer, list, work, s, left)
+    st.wrote = st.wrote.then_head(answer, 0, tree, st.at, a);
+    st.at = a;
+    expression(tree, answer, list, work, st, left);
+    expression(tree, answer, list, work, st, left);
 }
 
 #[cycle(expressions)]
@@ -106,19 +101,17 @@ fn unary(
     answer: &mut [u8],
     list: &mut [u32],
     work: &mut [u32],
-    st: Walk,
+    st: &mut Walk,
     left: u32,
-) -> Walk
-    ensures { Walks tree.now (read_unary (read left)) (onward analyze_node node_b) st answer.old list.old work.old result answer.new list.new work.new }
+)
+    ensures { Walks tree.now (read_unary (read left)) (onward analyze_node node_b) st.old answer.old list.old work.old st.new answer.new list.new work.new }
 {
-    let at = st.at;
-    let op = operator(tree, at);
-    let Read::Number(_, a) = op else {
-        return st;
+    let Ok(a) = operator(tree, st.at) else {
+        return;
     };
-    let w = st.wrote;
-    let x = then_head(answer, w, 1, tree, at, a);
-    expression(tree, answer, list, work, st.wrote(x).moved(a), left)
+    st.wrote = st.wrote.then_head(answer, 1, tree, st.at, a);
+    st.at = a;
+    expression(tree, answer, list, work, st, left);
 }
 
 // Its id is the next one behind its elements.
@@ -128,24 +121,24 @@ fn array_literal(
     answer: &mut [u8],
     list: &mut [u32],
     work: &mut [u32],
-    st: Walk,
+    st: &mut Walk,
     left: u32,
-) -> Walk
-    ensures { Walks tree.now (read_array_literal (read left) (read_ty left false)) (onward analyze_node node_b) st answer.old list.old work.old result answer.new list.new work.new }
+)
+    ensures { Walks tree.now (read_array_literal (read left) (read_ty left false)) (onward analyze_node node_b) st.old answer.old list.old work.old st.new answer.new list.new work.new }
 {
-    let at = st.at;
-    let place = number(tree, at);
-    let Read::Number(_, a) = place else {
-        return st;
+    let Ok((_, a)) = number(tree, st.at) else {
+        return;
     };
-    let element = carried(tree, st.script.names, a, left);
-    let Read::Number(_, b) = element else {
-        return st;
+    let Ok(b) = carried(tree, st.script.names, a, left) else {
+        return;
     };
-    let w = st.wrote;
-    let x = then_head(answer, w, 6, tree, at, b);
-    let s = expressions(tree, answer, list, work, opened(st.wrote(x).moved(b)), left);
-    array_id(tree, answer, closed(work, s, st))
+    st.wrote = st.wrote.then_head(answer, 6, tree, st.at, b);
+    st.at = b;
+    let outer = st.tables.scope;
+    st.push_scope();
+    expressions(tree, answer, list, work, st, left);
+    st.pop_scope(work, outer);
+    array_id(tree, answer, st);
 }
 
 #[cycle(expressions)]
@@ -154,20 +147,18 @@ fn structural(
     answer: &mut [u8],
     list: &mut [u32],
     work: &mut [u32],
-    st: Walk,
+    st: &mut Walk,
     left: u32,
-) -> Walk
-    ensures { Walks tree.now (read_structural (read left) (read_ty left false)) (onward analyze_node node_b) st answer.old list.old work.old result answer.new list.new work.new }
+)
+    ensures { Walks tree.now (read_structural (read left) (read_ty left false)) (onward analyze_node node_b) st.old answer.old list.old work.old st.new answer.new list.new work.new }
 {
-    let at = st.at;
-    let place = number(tree, at);
-    let Read::Number(_, a) = place else {
-        return st;
+    let Ok((_, a)) = number(tree, st.at) else {
+        return;
     };
-    let w = st.wrote;
-    let x = then_head(answer, w, 7, tree, at, a);
-    let s = items(tree, answer, list, work, st.wrote(x).moved(a), left);
-    maybe_type(tree, answer, work, s, left)
+    st.wrote = st.wrote.then_head(answer, 7, tree, st.at, a);
+    st.at = a;
+    items(tree, answer, list, work, st, left);
+    maybe_type(tree, answer, work, st, left);
 }
 
 #[cycle(expressions)]
@@ -176,19 +167,17 @@ fn parenthesized(
     answer: &mut [u8],
     list: &mut [u32],
     work: &mut [u32],
-    st: Walk,
+    st: &mut Walk,
     left: u32,
-) -> Walk
-    ensures { Walks tree.now (read_parenthesized (read left)) (onward analyze_node node_b) st answer.old list.old work.old result answer.new list.new work.new }
+)
+    ensures { Walks tree.now (read_parenthesized (read left)) (onward analyze_node node_b) st.old answer.old list.old work.old st.new answer.new list.new work.new }
 {
-    let at = st.at;
-    let place = number(tree, at);
-    let Read::Number(_, a) = place else {
-        return st;
+    let Ok((_, a)) = number(tree, st.at) else {
+        return;
     };
-    let w = st.wrote;
-    let x = then_head(answer, w, 8, tree, at, a);
-    expression(tree, answer, list, work, st.wrote(x).moved(a), left)
+    st.wrote = st.wrote.then_head(answer, 8, tree, st.at, a);
+    st.at = a;
+    expression(tree, answer, list, work, st, left);
 }
 
 #[cycle(expressions)]
@@ -197,19 +186,17 @@ fn deref(
     answer: &mut [u8],
     list: &mut [u32],
     work: &mut [u32],
-    st: Walk,
+    st: &mut Walk,
     left: u32,
-) -> Walk
-    ensures { Walks tree.now (read_deref (read left) (read_ty left false)) (onward analyze_node node_b) st answer.old list.old work.old result answer.new list.new work.new }
+)
+    ensures { Walks tree.now (read_deref (read left) (read_ty left false)) (onward analyze_node node_b) st.old answer.old list.old work.old st.new answer.new list.new work.new }
 {
-    let at = st.at;
-    let typed = carried(tree, st.script.names, at, left);
-    let Read::Number(_, a) = typed else {
-        return st;
+    let Ok(a) = carried(tree, st.script.names, st.at, left) else {
+        return;
     };
-    let w = st.wrote;
-    let x = then_head(answer, w, 9, tree, at, a);
-    reference(tree, answer, list, work, st.wrote(x).moved(a), left)
+    st.wrote = st.wrote.then_head(answer, 9, tree, st.at, a);
+    st.at = a;
+    reference(tree, answer, list, work, st, left);
 }
 
 #[cycle(expressions)]
@@ -218,23 +205,20 @@ fn bit_cast(
     answer: &mut [u8],
     list: &mut [u32],
     work: &mut [u32],
-    st: Walk,
+    st: &mut Walk,
     left: u32,
-) -> Walk
-    ensures { Walks tree.now (read_bit_cast (read left) (read_ty left false)) (onward analyze_node node_b) st answer.old list.old work.old result answer.new list.new work.new }
+)
+    ensures { Walks tree.now (read_bit_cast (read left) (read_ty left false)) (onward analyze_node node_b) st.old answer.old list.old work.old st.new answer.new list.new work.new }
 {
-    let at = st.at;
-    let places = two_places(tree, at);
-    let Read::Number(_, a) = places else {
-        return st;
+    let Ok(a) = two_places(tree, st.at) else {
+        return;
     };
-    let typed = carried(tree, st.script.names, a, left);
-    let Read::Number(_, b) = typed else {
-        return st;
+    let Ok(b) = carried(tree, st.script.names, a, left) else {
+        return;
     };
-    let w = st.wrote;
-    let x = then_head(answer, w, 10, tree, at, b);
-    expression(tree, answer, list, work, st.wrote(x).moved(b), left)
+    st.wrote = st.wrote.then_head(answer, 10, tree, st.at, b);
+    st.at = b;
+    expression(tree, answer, list, work, st, left);
 }
 
 // "A cast whose type is refused never looks at its operand."
@@ -244,22 +228,23 @@ fn type_cast(
     answer: &mut [u8],
     list: &mut [u32],
     work: &mut [u32],
-    st: Walk,
+    st: &mut Walk,
     left: u32,
-) -> Walk
-    ensures { Walks tree.now (read_type_cast (read left) (read_ty left false)) (onward analyze_node node_b) st answer.old list.old work.old result answer.new list.new work.new }
+)
+    ensures { Walks tree.now (read_type_cast (read left) (read_ty left false)) (onward analyze_node node_b) st.old answer.old list.old work.old st.new answer.new list.new work.new }
 {
-    let at = st.at;
-    let places = two_places(tree, at);
-    let Read::Number(_, a) = places else {
-        return st;
+    let Ok(a) = two_places(tree, st.at) else {
+        return;
     };
-    let w = st.wrote;
-    let x = then_head(answer, w, 11, tree, at, a);
-    let typed = value_type(tree, answer, work, st.wrote(x).moved(a), left);
-    match typed {
-        Typed::Fine(s) => expression(tree, answer, list, work, s, left),
-        Typed::Bad(s, fault) => past_operand(tree, answer, s.wrote(w), fault, left),
+    let before = st.wrote;
+    st.wrote = st.wrote.then_head(answer, 11, tree, st.at, a);
+    st.at = a;
+    match value_type(tree, answer, work, st, left) {
+        Ok(()) => expression(tree, answer, list, work, st, left),
+        Err(fault) => {
+            st.wrote = before;
+            past_operand(tree, answer, st, fault, left);
+        }
     }
 }
 
@@ -269,35 +254,30 @@ fn length_of_array(
     answer: &mut [u8],
     list: &mut [u32],
     work: &mut [u32],
-    st: Walk,
+    st: &mut Walk,
     left: u32,
-) -> Walk
-    ensures { Walks tree.now (read_length_of_array (read left)) (onward analyze_node node_b) st answer.old list.old work.old result answer.new list.new work.new }
+)
+    ensures { Walks tree.now (read_length_of_array (read left)) (onward analyze_node node_b) st.old answer.old list.old work.old st.new answer.new list.new work.new }
 {
-    let at = st.at;
-    let place = number(tree, at);
-    let Read::Number(_, a) = place else {
-        return st;
+    let Ok((_, a)) = number(tree, st.at) else {
+        return;
     };
-    let w = st.wrote;
-    let x = then_head(answer, w, 12, tree, at, a);
-    reference(tree, answer, list, work, st.wrote(x).moved(a), left)
+    st.wrote = st.wrote.then_head(answer, 12, tree, st.at, a);
+    st.at = a;
+    reference(tree, answer, list, work, st, left);
 }
 
-fn size_of(tree: &[u8], answer: &mut [u8], work: &mut [u32], st: Walk, left: u32) -> Walk
-    ensures { (l : List ℕ) → Walks tree.now (read_size_of (read_ty left false)) (onward analyze_node node_b) st answer.old l work.old result answer.new l work.new }
+fn size_of(tree: &[u8], answer: &mut [u8], work: &mut [u32], st: &mut Walk, left: u32)
+    ensures { (l : List ℕ) → Walks tree.now (read_size_of (read_ty left false)) (onward analyze_node node_b) st.old answer.old l work.old st.new answer.new l work.new }
 {
-    let at = st.at;
-    let place = number(tree, at);
-    let Read::Number(_, a) = place else {
-        return st;
+    let Ok((_, a)) = number(tree, st.at) else {
+        return;
     };
-    let w = st.wrote;
-    let x = then_head(answer, w, 13, tree, at, a);
-    let typed = value_type(tree, answer, work, st.wrote(x).moved(a), left);
-    match typed {
-        Typed::Fine(s) => s,
-        Typed::Bad(s, fault) => s.wrote(write_fault(answer, w, 15, fault)),
+    let before = st.wrote;
+    st.wrote = st.wrote.then_head(answer, 13, tree, st.at, a);
+    st.at = a;
+    if let Err(fault) = value_type(tree, answer, work, st, left) {
+        st.wrote = write_fault(answer, before, 15, fault);
     }
 }
 
@@ -308,34 +288,30 @@ fn function_call(
     answer: &mut [u8],
     list: &mut [u32],
     work: &mut [u32],
-    st: Walk,
+    st: &mut Walk,
     left: u32,
-) -> Walk
-    ensures { Walks tree.now (read_function_call (read left) (read_ty left false)) (onward analyze_node node_b) st answer.old list.old work.old result answer.new list.new work.new }
+)
+    ensures { Walks tree.now (read_function_call (read left) (read_ty left false)) (onward analyze_node node_b) st.old answer.old list.old work.old st.new answer.new list.new work.new }
 {
-    let at = st.at;
-    let one = read_identifier(tree, st.script.names, at);
-    let Identified::Is(i, a) = one else {
-        return st;
+    let Ok((i, a)) = read_identifier(tree, st.script.names, st.at) else {
+        return;
     };
-    let builtin = number(tree, a);
-    let Read::Number(n, b) = builtin else {
-        return st;
+    let Ok((n, b)) = number(tree, a) else {
+        return;
     };
-    let typed = carried(tree, st.script.names, b, left);
-    let Read::Number(_, c) = typed else {
-        return st;
+    let Ok(c) = carried(tree, st.script.names, b, left) else {
+        return;
     };
-    let called = use_called(work, st, i, n);
-    match called {
-        Used::As(made) => {
-            let s = call_head(tree, answer, st, 14, made, a, c);
-            expressions(tree, answer, list, work, s, left)
+    match st.use_called(work, i, n) {
+        Ok(made) => {
+            call_head(tree, answer, st, 14, made, a, c);
+            expressions(tree, answer, list, work, st, left);
         }
-        Used::Not(fault) => {
-            let w = st.wrote;
-            let s = expressions(tree, answer, list, work, st.moved(c), left);
-            s.wrote(write_fault(answer, w, 15, fault))
+        Err(fault) => {
+            let before = st.wrote;
+            st.at = c;
+            expressions(tree, answer, list, work, st, left);
+            st.wrote = write_fault(answer, before, 15, fault);
         }
     }
 }
@@ -347,25 +323,19 @@ pub fn expressions(
     answer: &mut [u8],
     list: &mut [u32],
     work: &mut [u32],
-    st: Walk,
+    st: &mut Walk,
     left: u32,
-) -> Walk
-    ensures { Walks tree.now (listed (read left expr)) list_walk st answer.old list.old work.old result answer.new list.new work.new }
+)
+    ensures { Walks tree.now (listed (read left expr)) list_walk st.old answer.old list.old work.old st.new answer.new list.new work.new }
 {
-    let at = st.at;
-    let count = number(tree, at);
-    let Read::Number(n, a) = count else {
-        return st;
+    let Ok((n, a)) = number(tree, st.at) else {
+        return;
     };
-    let w = st.wrote;
-    let x = then_number(answer, w, n);
-    let mut s = st.wrote(x).moved(a);
-    let mut rest = n;
-    while rest != 0 {
-        s = expression(tree, answer, list, work, s, left);
-        rest -= 1;
+    st.wrote = st.wrote.then_number(answer, n);
+    st.at = a;
+    for _ in 0..n {
+        expression(tree, answer, list, work, st, left);
     }
-    s
 }
 
 // The list of a structural literal's members.
@@ -375,25 +345,19 @@ fn items(
     answer: &mut [u8],
     list: &mut [u32],
     work: &mut [u32],
-    st: Walk,
+    st: &mut Walk,
     left: u32,
-) -> Walk
-    ensures { Walks tree.now (listed (item_of (read left))) list_walk st answer.old list.old work.old result answer.new list.new work.new }
+)
+    ensures { Walks tree.now (listed (item_of (read left))) list_walk st.old answer.old list.old work.old st.new answer.new list.new work.new }
 {
-    let at = st.at;
-    let count = number(tree, at);
-    let Read::Number(n, a) = count else {
-        return st;
+    let Ok((n, a)) = number(tree, st.at) else {
+        return;
     };
-    let w = st.wrote;
-    let x = then_number(answer, w, n);
-    let mut s = st.wrote(x).moved(a);
-    let mut rest = n;
-    while rest != 0 {
-        s = item(tree, answer, list, work, s, left);
-        rest -= 1;
+    st.wrote = st.wrote.then_number(answer, n);
+    st.at = a;
+    for _ in 0..n {
+        item(tree, answer, list, work, st, left);
     }
-    s
 }
 
 #[cycle(expressions)]
@@ -402,23 +366,20 @@ fn item(
     answer: &mut [u8],
     list: &mut [u32],
     work: &mut [u32],
-    st: Walk,
+    st: &mut Walk,
     left: u32,
-) -> Walk
-    ensures { Walks tree.now (item_of (read left)) (onward analyze_node node_b) st answer.old list.old work.old result answer.new list.new work.new }
+)
+    ensures { Walks tree.now (item_of (read left)) (onward analyze_node node_b) st.old answer.old list.old work.old st.new answer.new list.new work.new }
 {
-    let at = st.at;
-    let identifier = maybe_identifier(tree, st.script.names, at);
-    let Read::Number(_, a) = identifier else {
-        return st;
+    let Ok(a) = maybe_identifier(tree, st.script.names, st.at) else {
+        return;
     };
-    let offset = number(tree, a);
-    let Read::Number(_, b) = offset else {
-        return st;
+    let Ok((_, b)) = number(tree, a) else {
+        return;
     };
-    let w = st.wrote;
-    let x = then_numbers(answer, w, tree, at, b);
-    expression(tree, answer, list, work, st.wrote(x).moved(b), left)
+    st.wrote = st.wrote.then_numbers(answer, tree, st.at, b);
+    st.at = b;
+    expression(tree, answer, list, work, st, left);
 }
 
 #[cycle(expressions)]
@@ -427,27 +388,24 @@ pub fn reference(
     answer: &mut [u8],
     list: &mut [u32],
     work: &mut [u32],
-    st: Walk,
+    st: &mut Walk,
     left: u32,
-) -> Walk
-    ensures { Walks tree.now (read left ref) (onward analyze_node node_b) st answer.old list.old work.old result answer.new list.new work.new }
+)
+    ensures { Walks tree.now (read left ref) (onward analyze_node node_b) st.old answer.old list.old work.old st.new answer.new list.new work.new }
 {
-    let at = st.at;
-    let depth = below(tree, 256, at);
-    let Read::Number(_, a) = depth else {
-        return st;
+    let Ok((_, a)) = below(tree, 256, st.at) else {
+        return;
     };
     if left == 0 {
-        return st;
+        return;
     }
-    let places = two_places(tree, a);
-    let Read::Number(_, b) = places else {
-        return st;
+    let Ok(b) = two_places(tree, a) else {
+        return;
     };
-    let w = st.wrote;
-    let x = then_numbers(answer, w, tree, at, b);
-    let s = base(tree, answer, list, work, st.wrote(x).moved(b));
-    steps(tree, answer, list, work, s, left - 1)
+    st.wrote = st.wrote.then_numbers(answer, tree, st.at, b);
+    st.at = b;
+    base(tree, answer, list, work, st);
+    steps(tree, answer, list, work, st, left - 1);
 }
 
 #[cycle(expressions)]
@@ -456,25 +414,19 @@ fn steps(
     answer: &mut [u8],
     list: &mut [u32],
     work: &mut [u32],
-    st: Walk,
+    st: &mut Walk,
     left: u32,
-) -> Walk
-    ensures { Walks tree.now (listed (read left step)) list_walk st answer.old list.old work.old result answer.new list.new work.new }
+)
+    ensures { Walks tree.now (listed (read left step)) list_walk st.old answer.old list.old work.old st.new answer.new list.new work.new }
 {
-    let at = st.at;
-    let count = number(tree, at);
-    let Read::Number(n, a) = count else {
-        return st;
+    let Ok((n, a)) = number(tree, st.at) else {
+        return;
     };
-    let w = st.wrote;
-    let x = then_number(answer, w, n);
-    let mut s = st.wrote(x).moved(a);
-    let mut rest = n;
-    while rest != 0 {
-        s = step(tree, answer, list, work, s, left);
-        rest -= 1;
+    st.wrote = st.wrote.then_number(answer, n);
+    st.at = a;
+    for _ in 0..n {
+        step(tree, answer, list, work, st, left);
     }
-    s
 }
 
 #[cycle(expressions)]
@@ -483,23 +435,22 @@ fn step(
     answer: &mut [u8],
     list: &mut [u32],
     work: &mut [u32],
-    st: Walk,
+    st: &mut Walk,
     left: u32,
-) -> Walk
-    ensures { Walks tree.now (read left step) (onward analyze_node node_b) st answer.old list.old work.old result answer.new list.new work.new }
+)
+    ensures { Walks tree.now (read left step) (onward analyze_node node_b) st.old answer.old list.old work.old st.new answer.new list.new work.new }
 {
-    let at = st.at;
-    let kind = below(tree, 2, at);
-    let Read::Number(k, a) = kind else {
-        return st;
+    let Ok((k, a)) = below(tree, 2, st.at) else {
+        return;
     };
     if left == 0 {
-        return st;
+        return;
     }
-    if k == 0 {
-        return element(tree, answer, list, work, st.moved(a), left - 1);
+    st.at = a;
+    match k {
+        0 => element(tree, answer, list, work, st, left - 1),
+        _ => member(tree, answer, st),
     }
-    member(tree, answer, st.moved(a))
 }
 
 #[cycle(expressions)]
@@ -508,19 +459,17 @@ fn element(
     answer: &mut [u8],
     list: &mut [u32],
     work: &mut [u32],
-    st: Walk,
+    st: &mut Walk,
     left: u32,
-) -> Walk
-    ensures { Walks tree.now (step_of (read left) 0) (onward analyze_node node_b) st answer.old list.old work.old result answer.new list.new work.new }
+)
+    ensures { Walks tree.now (step_of (read left) 0) (onward analyze_node node_b) st.old answer.old list.old work.old st.new answer.new list.new work.new }
 {
-    let at = st.at;
-    let endless = below(tree, 3, at);
-    let Read::Number(_, a) = endless else {
-        return st;
+    let Ok((_, a)) = below(tree, 3, st.at) else {
+        return;
     };
-    let w = st.wrote;
-    let x = then_head(answer, w, 0, tree, at, a);
-    expression(tree, answer, list, work, st.wrote(x).moved(a), left)
+    st.wrote = st.wrote.then_head(answer, 0, tree, st.at, a);
+    st.at = a;
+    expression(tree, answer, list, work, st, left);
 }
 
 pub fn option_expression(
@@ -528,21 +477,17 @@ pub fn option_expression(
     answer: &mut [u8],
     list: &mut [u32],
     work: &mut [u32],
-    st: Walk,
+    st: &mut Walk,
     left: u32,
-) -> Walk
-    ensures { Walks tree.now (option (read left expr)) (onward (analyze_option analyze_node) (option_b node_b)) st answer.old list.old work.old result answer.new list.new work.new }
+)
+    ensures { Walks tree.now (option (read left expr)) (onward (analyze_option analyze_node) (option_b node_b)) st.old answer.old list.old work.old st.new answer.new list.new work.new }
 {
-    let at = st.at;
-    let tag = below(tree, 2, at);
-    let Read::Number(t, a) = tag else {
-        return st;
+    let Ok((t, a)) = below(tree, 2, st.at) else {
+        return;
     };
-    let w = st.wrote;
-    let x = then_number(answer, w, t);
-    let s = st.wrote(x).moved(a);
-    if t == 0 {
-        return s;
+    st.wrote = st.wrote.then_number(answer, t);
+    st.at = a;
+    if t != 0 {
+        expression(tree, answer, list, work, st, left);
     }
-    expression(tree, answer, list, work, s, left)
 }

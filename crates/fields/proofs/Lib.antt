@@ -1,5 +1,7 @@
+pub mod Refusals
 pub mod Numbers
-pub mod Chain
 pub mod Back
-pub mod Fields
+pub mod Chain
+pub mod Lists
+pub mod Parts
 pub mod Counting

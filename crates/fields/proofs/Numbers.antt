@@ -1,17 +1,12 @@
 -- A number's groups, one way out at a time.
-use Prim.Native.Nat.{ℕ, zero, suc, ◌+◌, ◌*◌, ◌-◌, ◌%◌, ◌^◌, ◌≤◌, ◌<◌}
+use Rattle.std.proofs.Common.{ℕ, zero, suc, ◌+◌, ◌*◌, ◌-◌, ◌%◌, ◌^◌, ◌≤◌, ◌<◌, ◌≡◌, refl, ap, ◌∙◌, Bool, true, false, List, length, get_or, arith, Ok, Err, Result}
 use native.Mathlib.Nat.{not-suc-le-zero, le-mul_of_pos_right, pow-suc}
-use native.Mathlib.Omega.{arith}
-use lib.ListN.{length, get_or}
 use lib.Dec.{lit≤}
-use borrow.Author.Tests.{lt-ltb, le-ltb, eq-eqb, ne_eqb}
-use mathlib.Core.Path.{◌≡◌, refl, sym, ap, subst, ◌∙◌}
-use mathlib.Core.Bool.{Bool, true, false}
-use mathlib.Core.List.{List}
-use Rattle.penne.specs.Reader.{Cur, got, refused, Reader, num, groups, last_group, below, such, moved}
-use Rattle.fields.specs.declared.number.Read.{Read}
-use Rattle.fields.specs.declared.number.Read.TheVariants.{Number, Refused}
-use Rattle.fields.specs.Answers.{cursor, number_of, Gives, Last}
+use borrow.Author.Tests.{lt-ltb, le-ltb}
+use Rattle.penne.specs.Reader.{Cur, got, refused, Reader, num, groups, last_group, moved, such}
+use Rattle.fields.specs.Answers.{cursor, Gives, Last}
+use Rattle.fields.specs.declared.refusal.Reason.TheVariants.{CutOff, BadNumber}
+use Rattle.fields.specs.declared.refusal.Refusal.{Refusal}
 
 -- THE GROUPS
 
@@ -61,54 +56,31 @@ module _ {s : List ℕ} {start left w v here : ℕ} (g : Going s start left w v 
   pub weight_le : w ≤ 2 ^ 35
   weight_le = omega (arith, g.weight, le-mul_of_pos_right w (pow128_pos left))
 
-  pub going_on : {b : ℕ} → 0 < left → here < length s → b ≡ get_or s here 0 → 128 ≤ b → v + b % 128 * w < w * 128 → Going s start (left - 1) (w * 128) (v + b % 128 * w) (here + 1)
-  going_on h i e k u = record { is = λ c z. g.is c z ∙ on start w v s here c left _ h i e k; weight = weight_on w left h g.weight; under = u }
+  pub going_on : {b rest : ℕ} → rest ≡ left - 1 → 0 < left → here < length s → b ≡ get_or s here 0 → 128 ≤ b → v + b % 128 * w < w * 128 → Going s start rest (w * 128) (v + b % 128 * w) (here + 1)
+  going_on q h i e k u = rw q (record { is = λ c z. g.is c z ∙ on start w v s here c left _ h i e k; weight = weight_on w left h g.weight; under = u })
 
-  pub going_out : 0 < left → length s ≤ here → Gives num s start (Refused 3 start)
-  unfolding number_of
-  going_out h i = record { is = λ names k. sym (g.is (cursor start names k) refl ∙ out start w v s here (cursor start names k) left h i) }
+  pub going_out : 0 < left → length s ≤ here → Gives num s start (Err (record { reason = CutOff; place = start }))
+  going_out h i = record { is = λ names k. g.is (cursor start names k) refl ∙ out start w v s here (cursor start names k) left h i }
 
-  pub going_none : (0 < left → ⊥) → Gives num s start (Refused 4 start)
-  unfolding number_of
-  going_none h = record { is = λ names k. sym (g.is (cursor start names k) refl ∙ none_left start w v s here (cursor start names k) left (omega arith)) }
+  pub going_none : left ≡ 0 → Gives num s start (Err (record { reason = BadNumber; place = start }))
+  going_none h = record { is = λ names k. g.is (cursor start names k) refl ∙ none_left start w v s here (cursor start names k) left h }
 
-  pub going_last : {b : ℕ} {r : Read} → 0 < left → here < length s → b ≡ get_or s here 0 → b < 128 → Last b w v start (here + 1) r → Gives num s start r
-  going_last h i e k l = record { is = λ names m. l.is names m ∙ sym (g.is (cursor start names m) refl ∙ last start w v s here (cursor start names m) left _ h i e k) }
-
--- THE LAST GROUP
-
-module _ {b w v start next : ℕ} where
-  pub last_large : 2 ^ 32 ≤ v + b * w → Last b w v start next (Refused 4 start)
-  unfolding last_group number_of
-  last_large h = record { is = λ names k. sym (rw (le-ltb (v + b * w) (2 ^ 32) h, last_group)) }
-
-  pub last_empty : v + b * w < 2 ^ 32 → b ≡ 0 → (w ≡ 1 → ⊥) → Last b w v start next (Refused 4 start)
-  unfolding last_group number_of
-  last_empty h e g = record { is = λ names k. sym (simp (lt-ltb (v + b * w) (2 ^ 32) h, eq-eqb b 0 e, ne_eqb w 1 g, last_group)) }
-
-  pub last_only : v + b * w < 2 ^ 32 → b ≡ 0 → w ≡ 1 → Last b w v start next (Number (v + b * w) next)
-  unfolding last_group number_of moved
-  last_only h g e = record { is = λ names k. sym (simp (lt-ltb (v + b * w) (2 ^ 32) h, eq-eqb b 0 g, eq-eqb w 1 e, last_group)) }
-
-  pub last_fits : v + b * w < 2 ^ 32 → (b ≡ 0 → ⊥) → Last b w v start next (Number (v + b * w) next)
-  unfolding last_group number_of moved
-  last_fits h e = record { is = λ names k. sym (simp (lt-ltb (v + b * w) (2 ^ 32) h, ne_eqb b 0 e, last_group)) }
+  pub going_last : {b : ℕ} {r : Result (ℕ × ℕ) Refusal} → 0 < left → here < length s → b ≡ get_or s here 0 → b < 128 → Last b w v start (here + 1) r → Gives num s start r
+  going_last h i e k l = record { is = λ names m. g.is (cursor start names m) refl ∙ last start w v s here (cursor start names m) left _ h i e k ∙ l.is names m }
 
 -- A NUMBER OF ONE GROUP
 
-one_group : (b start next : ℕ) → b < 128 → Last b 1 0 start next (Number (0 + b * 1) next)
-one_group zero start next h = last_only (lit≤ tt) refl refl
-one_group (suc b) start next h = last_fits (omega arith) λ e. absurd (omega (arith, e))
-
-pub number_out : {s : List ℕ} {at : ℕ} → length s ≤ at → Gives num s at (Refused 3 at)
+pub number_out : {s : List ℕ} {at : ℕ} → length s ≤ at → Gives num s at (Err (record { reason = CutOff; place = at }))
 number_out {s} {at} h = going_out (going_start s at) (lit≤ tt) h
 
-pub number_one : {s : List ℕ} {at b : ℕ} → at < length s → b ≡ get_or s at 0 → b < 128 → Gives num s at (Number b (at + 1))
-number_one {s} {at} {b} h e k =
-    let q : 0 + b * 1 ≡ b = omega arith in
-    subst (λ (n : ℕ). Gives num s at (Number n (at + 1))) q (going_last (going_start s at) (lit≤ tt) h e k (one_group b at (at + 1) k))
+one_group : (b start next : ℕ) → b < 128 → Last b 1 0 start next (Ok (b, next))
+unfolding last_group moved
+one_group b start next h = record { is = λ names k. grind arith }
 
--- A NUMBER BELOW A LIMIT
+pub number_one : {s : List ℕ} {at b : ℕ} → at < length s → b ≡ get_or s at 0 → b < 128 → Gives num s at (Ok (b, at + 1))
+number_one {s} {at} {b} h e k = going_last (going_start s at) (lit≤ tt) h e k (one_group b at (at + 1) k)
+
+-- A NUMBER THAT MUST PASS A TEST
 
 module _ {A : Type 0} (m : Reader A) (test : A → Cur → Bool) (k : ℕ) (s : List ℕ) (c : Cur) where
   pub such_no : {n p : ℕ} → m s c ≡ refused n p → such m test k s c ≡ refused n p
@@ -122,16 +94,3 @@ module _ {A : Type 0} (m : Reader A) (test : A → Cur → Bool) (k : ℕ) (s : 
   pub such_not : {a : A} {next : Cur} → m s c ≡ got a next → test a next ≡ false → such m test k s c ≡ refused k c.at
   unfolding such
   such_not e t = rw (e, t, such)
-
-module _ (limit : ℕ) {s : List ℕ} {at : ℕ} {m : Read} (g : Gives num s at m) where
-  pub below_refused : {n p : ℕ} → m ≡ Refused n p → Gives (below limit) s at m
-  unfolding below number_of
-  below_refused {n} {p} e = record { is = λ names k. ap (number_of names k) e ∙ sym (such_no _ _ _ _ _ (sym (g.is names k) ∙ ap (number_of names k) e)) }
-
-  pub below_is : {v n : ℕ} → m ≡ Number v n → v < limit → Gives (below limit) s at (Number v n)
-  unfolding below number_of
-  below_is {v} {n} e i = record { is = λ names k. sym (such_got _ _ _ _ _ (sym (g.is names k) ∙ ap (number_of names k) e) (lt-ltb v limit i)) }
-
-  pub below_not : {v n : ℕ} → m ≡ Number v n → limit ≤ v → Gives (below limit) s at (Refused 5 at)
-  unfolding below number_of
-  below_not {v} {n} e i = record { is = λ names k. sym (such_not _ _ _ _ _ (sym (g.is names k) ∙ ap (number_of names k) e) (le-ltb v limit i)) }

@@ -1,10 +1,10 @@
 // Fields that are more than a number: names, identifiers, bytes.
 ghost use Rattle.penne.specs.Reader.{raw, bytes};
 ghost use Rattle.penne.specs.Read.{name, ident};
-ghost use Rattle.std.specs.Prelude.{◌≡◌};
-ghost use Rattle.fields.specs.Answers.{Reads, Ends, Skips, Identifies, unidentified_by, two_places, operator};
+ghost use Rattle.fields.specs.Answers.{Reads, Ends, Skips, Identifies, two_places, operator};
 
-use super::number::{Read, below, number};
+use super::number::{below, number};
+use super::refusal::{Reason, Refusal};
 
 #[derive(Clone, Copy)]
 pub struct Identifier {
@@ -14,120 +14,79 @@ pub struct Identifier {
     pub authority: u32,
 }
 
-// What reading an identifier finds.
-#[derive(Clone, Copy)]
-pub enum Identified {
-    Is(Identifier, usize),
-    Not(u32, usize),
-}
-
 // A name number, which is in the table of so many names.
-pub fn name(tree: &[u8], names: u32, at: usize) -> Read
+#[tactic(auto, unfolding(penne::specs::Read::name, penne::specs::Reader::such))]
+pub fn name(tree: &[u8], names: u32, at: usize) -> Result<(u32, usize), Refusal>
     ensures { Reads name tree.now names at result }
 {
-    let first = number(tree, at);
-    let Read::Number(value, next) = first else {
-        return first;
-    };
+    let (value, next) = number(tree, at)?;
     if value < names {
-        Read::Number(value, next)
+        Ok((value, next))
     } else {
-        Read::Refused(5, at)
+        Err(Reason::OutOfRange.at(at))
     }
 }
 
-pub fn read_identifier(tree: &[u8], names: u32, at: usize) -> Identified
+#[tactic(auto, using(crate::proofs::Chain::then_is), unfolding(penne::specs::Read::ident, penne::specs::Reader::ret))]
+pub fn read_identifier(tree: &[u8], names: u32, at: usize) -> Result<(Identifier, usize), Refusal>
     ensures { Identifies tree.now names at result }
 {
-    let first = name(tree, names, at);
-    let Read::Number(name, a) = first else {
-        return unidentified(first);
+    let (name, at) = name(tree, names, at)?;
+    let (place, at) = number(tree, at)?;
+    let (id, at) = number(tree, at)?;
+    let (authority, at) = below(tree, 2, at)?;
+    let identifier = Identifier {
+        name,
+        place,
+        id,
+        authority,
     };
-    let second = number(tree, a);
-    let Read::Number(place, b) = second else {
-        return unidentified(second);
-    };
-    let third = number(tree, b);
-    let Read::Number(id, c) = third else {
-        return unidentified(third);
-    };
-    let fourth = below(tree, 2, c);
-    let Read::Number(authority, d) = fourth else {
-        return unidentified(fourth);
-    };
-    Identified::Is(
-        Identifier {
-            name: name,
-            place: place,
-            id: id,
-            authority: authority,
-        },
-        d,
-    )
-}
-
-fn unidentified(r: Read) -> Identified
-    ensures { result ≡ unidentified_by r }
-{
-    match r {
-        Read::Refused(number, place) => Identified::Not(number, place),
-        Read::Number(_, at) => Identified::Not(0, at),
-    }
+    Ok((identifier, at))
 }
 
 // An identifier passed by.
-pub fn past_identifier(tree: &[u8], names: u32, at: usize) -> Read
+#[tactic(auto, unfolding(crate::specs::Answers::forget))]
+pub fn past_identifier(tree: &[u8], names: u32, at: usize) -> Result<usize, Refusal>
     ensures { Ends ident tree.now names at result }
 {
-    let one = read_identifier(tree, names, at);
-    match one {
-        Identified::Is(_, next) => Read::Number(0, next),
-        Identified::Not(number, place) => Read::Refused(number, place),
-    }
+    let (_, next) = read_identifier(tree, names, at)?;
+    Ok(next)
 }
 
 // So many bytes, which are one field.
-pub fn raw(tree: &[u8], at: usize, count: u32) -> Read
+#[tactic(auto, unfolding(crate::specs::Answers::forget, penne::specs::Reader::raw, penne::specs::Reader::moved))]
+pub fn raw(tree: &[u8], at: usize, count: u32) -> Result<usize, Refusal>
     ensures { Skips (raw count) tree.now at result }
 {
-    if tree.len() < at {
-        return Read::Refused(3, at);
+    match at.checked_add(count as usize) {
+        Some(end) if end <= tree.len() => Ok(end),
+        _ => Err(Reason::CutOff.at(at)),
     }
-    let width = count as usize;
-    if tree.len() - at < width {
-        return Read::Refused(3, at);
-    }
-    Read::Number(0, at + width)
 }
 
 // A length, then that many bytes.
-pub fn bytes(tree: &[u8], at: usize) -> Read
+#[tactic(auto, using(crate::proofs::Chain::then_is), unfolding(crate::specs::Answers::forget, penne::specs::Reader::bytes))]
+pub fn bytes(tree: &[u8], at: usize) -> Result<usize, Refusal>
     ensures { Skips bytes tree.now at result }
 {
-    let first = number(tree, at);
-    let Read::Number(count, a) = first else {
-        return first;
-    };
-    raw(tree, a, count)
+    let (count, at) = number(tree, at)?;
+    raw(tree, at, count)
 }
 
-pub fn two_places(tree: &[u8], at: usize) -> Read
+#[tactic(auto, using(crate::proofs::Chain::then_is), unfolding(crate::specs::Answers::forget, crate::specs::Answers::two_places, penne::specs::Read::place, penne::specs::Reader::ret))]
+pub fn two_places(tree: &[u8], at: usize) -> Result<usize, Refusal>
     ensures { Skips two_places tree.now at result }
 {
-    let first = number(tree, at);
-    let Read::Number(_, a) = first else {
-        return first;
-    };
-    number(tree, a)
+    let (_, at) = number(tree, at)?;
+    let (_, at) = number(tree, at)?;
+    Ok(at)
 }
 
 // An operator and two places.
-pub fn operator(tree: &[u8], at: usize) -> Read
+#[tactic(auto, using(crate::proofs::Chain::then_is), unfolding(crate::specs::Answers::forget, crate::specs::Answers::operator, crate::specs::Answers::two_places, penne::specs::Reader::ret))]
+pub fn operator(tree: &[u8], at: usize) -> Result<usize, Refusal>
     ensures { Skips operator tree.now at result }
 {
-    let op = number(tree, at);
-    let Read::Number(_, a) = op else {
-        return op;
-    };
-    two_places(tree, a)
+    let (_, at) = number(tree, at)?;
+    two_places(tree, at)
 }

@@ -1,7 +1,7 @@
 -- One call of get_container_depth, with the largest maximum, tells what get_container_depth and is_container answer.
 use Prim.Native.Nat.{ℕ, zero, suc, ◌+◌, ◌*◌, ◌%◌, ◌^◌, ◌<◌}
 use native.Mathlib.Omega.{arith}
-use mathlib.Core.Path.{◌≡◌, refl}
+use mathlib.Core.Path.{◌≡◌, refl, sym}
 use mathlib.Core.Bool.{Bool, true, false, ◌&&◌, ◌||◌, not}
 use mathlib.Core.List.{List, [], ◌∷◌}
 use mathlib.Core.Option.{Option, none, some}
@@ -121,9 +121,9 @@ tree_told k max (got t c) h = decl_told k max t (h.to refl) (get_elem? t.decls k
 tree_told k max (refused n p) h = refl
 
 -- of any bytes
-pub tells_depth_and_kind : (s : List ℕ) (k max : ℕ) → depth_told max (get_container_depth s k 4294967295) ≡ depth_and_kind (get_container_depth s k max) (is_container s k)
+pub tells_depth_and_kind : (s : List ℕ) (k max : ℕ) → depth_and_kind (get_container_depth s k max) (is_container s k) ≡ depth_told max (get_container_depth s k 4294967295)
 unfolding get_container_depth is_container ask depth_told depth_and_kind
-tells_depth_and_kind s k max = (elim (ltb 65535 (length s)) as (λ t. ltb 65535 (length s) ≡ t → depth_told max (get_container_depth s k 4294967295) ≡ depth_and_kind (get_container_depth s k max) (is_container s k)) [
+tells_depth_and_kind s k max = (elim (ltb 65535 (length s)) as (λ t. ltb 65535 (length s) ≡ t → depth_and_kind (get_container_depth s k max) (is_container s k) ≡ depth_told max (get_container_depth s k 4294967295)) [
   | true ↦ λ z. rw (z, ask)
-  | false ↦ λ z. rw (z, ask) (tree_told k max (decode answered s) (decode_small s))
+  | false ↦ λ z. rw (z, ask) (sym (tree_told k max (decode answered s) (decode_small s)))
 ]) refl

@@ -1,6 +1,7 @@
 -- What the calls of the C interface leave behind.
-use Rattle.std.specs.Prelude.{ℕ, ◌≡◌, Bool, true, false, List, [], ◌∷◌, ◌++◌, length, get_or, take, replicate}
+use Rattle.std.specs.Prelude.{ℕ, ◌≡◌, Bool, true, false, List, [], ◌∷◌, ◌++◌, length, take, replicate}
 use Rattle.penne.specs.Scoper.{Asked, told, untold, Outcome, scoped}
+use Rattle.hurdlebraid.specs.declared.Told.{Told as Told-code}
 
 -- a refusal's number (0: none) and place, then two values
 pub record Told : Type 0 where
@@ -12,13 +13,13 @@ pub record Told : Type 0 where
 abbrev pub the_words : Told → List ℕ
 the_words t = t.number ∷ t.place ∷ t.first ∷ t.second ∷ []
 
--- one of them, 0 behind the last
-unfoldable pub word_of : Told → (i : ℕ) → ℕ
-word_of t i = get_or (the_words t) i 0
-
 -- as many of these words as were lent room for, and zeros behind them
 unfoldable pub told_words : (room : ℕ) → Told → List ℕ
 told_words room t = take room (the_words t ++ replicate room 0)
+
+-- what the code tells
+abbrev pub told_by : Told-code → Told
+told_by t = record { number = t.number; place = t.place; first = t.first; second = t.second }
 
 -- of the scoping call: the answer's length in bytes, the list's in records
 unfoldable pub scoped_told : Outcome → Told

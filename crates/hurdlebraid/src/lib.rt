@@ -3,12 +3,15 @@
 
 ghost use Rattle.std.specs.Prelude.{◌≡◌, length};
 ghost use Rattle.penne.specs.Scoper.{get_container_depth, is_container, get_structure_name};
-ghost use Rattle.hurdlebraid.specs.Telling.{Told, told_words, Analyzes, depth_and_kind, name_told, word_of};
+ghost use Rattle.fields.specs.Answers.{row_of};
+ghost use Rattle.hurdlebraid.specs.Telling.{told_words, Analyzes, depth_and_kind, name_told, told_by};
 
-use readers::{Depth, Named, get_container_depth, structure_name_at};
+use fields::refusal::Refusal;
+use readers::{Part, get_container_depth, structure_name_at};
 use scoper::{Scoped, analyze};
 
 // The values: the answer's length in bytes, the list's in records.
+#[tactic(auto, unfolding(scoper::specs::Scoping::outcome_of, crate::specs::Telling::scoped_told))]
 #[unsafe(no_mangle)]
 pub extern "C" fn hurdlebraid_analyze(
     tree: &[u8],
@@ -19,18 +22,15 @@ pub extern "C" fn hurdlebraid_analyze(
 )
     ensures { Analyzes tree.now answer.old list.old work.old outcome.old answer.new list.new work.new outcome.new }
 {
-    let scoped = analyze(tree, answer, list, work);
-    match scoped {
-        Scoped::Answer(length, records) => {
-            tell(outcome, 0, 0, length as u64, records as u64);
-        }
-        Scoped::Refused(number, place) => {
-            tell(outcome, number as u64, place as u64, 0, 0);
-        }
-    }
+    let told = match analyze(tree, answer, list, work) {
+        Ok(Scoped { length, records }) => Told::values(length as u64, records as u64),
+        Err(refusal) => Told::refused(refusal),
+    };
+    tell(outcome, told);
 }
 
 // The values: the depth (`max` where there is none), and whether it is a container (0 or 1). No depth is as large as the maximum asked with.
+#[tactic(auto, using(crate::proofs::Depths::tells_depth_and_kind), unfolding(crate::proofs::Depths::depth_told))]
 #[unsafe(no_mangle)]
 pub extern "C" fn hurdlebraid_container_depth(
     tree: &[u8],
@@ -40,55 +40,66 @@ pub extern "C" fn hurdlebraid_container_depth(
 )
     ensures { outcome.new ≡ told_words (length outcome.old) (depth_and_kind (get_container_depth tree.now declaration max) (is_container tree.now declaration)) }
 {
-    let depth = get_container_depth(tree, declaration, 4294967295);
-    match depth {
-        Depth::Is(d) => {
-            if d < 4294967295 {
-                tell(outcome, 0, 0, d as u64, 1);
-            } else {
-                tell(outcome, 0, 0, max as u64, 0);
-            }
-        }
-        Depth::Refused(number, place) => {
-            tell(outcome, number as u64, place as u64, 0, 0);
-        }
-    }
+    let told = match get_container_depth(tree, declaration, u32::MAX) {
+        Ok(depth) if depth < u32::MAX => Told::values(u64::from(depth), 1),
+        Ok(_) => Told::values(u64::from(max), 0),
+        Err(refusal) => Told::refused(refusal),
+    };
+    tell(outcome, told);
 }
 
 // The values: where the name begins in the tree, and its length; both 0 where the declaration is no structure.
+#[tactic(auto, unfolding(crate::specs::Telling::name_told))]
 #[unsafe(no_mangle)]
 pub extern "C" fn hurdlebraid_structure_name(tree: &[u8], declaration: u32, outcome: &mut [u64])
     ensures { outcome.new ≡ told_words (length outcome.old) (name_told (get_structure_name tree.now declaration)) }
 {
-    let named = structure_name_at(tree, declaration);
-    match named {
-        Named::At(start, length) => {
-            tell(outcome, 0, 0, start as u64, length as u64);
+    let told = match structure_name_at(tree, declaration) {
+        Ok(Part { start, length }) => Told::values(start as u64, length as u64),
+        Err(refusal) => Told::refused(refusal),
+    };
+    tell(outcome, told);
+}
+
+// What a call tells: a refusal's number (0: none) and place, then two values.
+#[derive(Clone, Copy)]
+struct Told {
+    number: u64,
+    place: u64,
+    first: u64,
+    second: u64,
+}
+
+impl Told {
+    fn values(first: u64, second: u64) -> Told
+        ensures { result ≡ record { number = 0; place = 0; first = first; second = second } }
+    {
+        Told {
+            number: 0,
+            place: 0,
+            first,
+            second,
         }
-        Named::Refused(number, place) => {
-            tell(outcome, number as u64, place as u64, 0, 0);
+    }
+
+    fn refused(refusal: Refusal) -> Told
+        ensures { result ≡ record { number = row_of refusal.reason; place = refusal.place; first = 0; second = 0 } }
+    {
+        Told {
+            number: u64::from(refusal.reason.number()),
+            place: refusal.place as u64,
+            first: 0,
+            second: 0,
         }
     }
 }
 
-fn tell(outcome: &mut [u64], number: u64, place: u64, first: u64, second: u64)
-    ensures { outcome.new ≡ told_words (length outcome.old) (record { number = number; place = place; first = first; second = second }) }
+#[tactic(auto, using(crate::proofs::Telling::words_over))]
+fn tell(outcome: &mut [u64], told: Told)
+    ensures { outcome.new ≡ told_words (length outcome.old) (told_by told) }
 {
-    let mut i = 0usize;
-    while i < outcome.len() {
-        outcome[i] = told(i, number, place, first, second);
-        i += 1;
-    }
-}
-
-fn told(i: usize, number: u64, place: u64, first: u64, second: u64) -> u64
-    ensures { result ≡ word_of (record { number = number; place = place; first = first; second = second }) i }
-{
-    match i {
-        0 => number,
-        1 => place,
-        2 => first,
-        3 => second,
-        _ => 0,
-    }
+    let words = [told.number, told.place, told.first, told.second];
+    let count = outcome.len().min(words.len());
+    outcome.fill(0);
+    outcome[..count].copy_from_slice(&words[..count]);
 }

@@ -8,34 +8,30 @@ use native.Mathlib.Decide.{dec_lt}
 use lib.ListN.{length, get_or, take, drop, replicate, length-append, length-replicate, get_or-replicate, get_or-append}
 use lib.Seq.{length-take-le, get_or-take, get_or-drop, get_or-append-add}
 use borrow.Rule.Slice.PartMut.{mid_of, post_of, put_mid, mid_len}
+use Rattle.std.specs.Prelude.{Result, Ok, Err}
+use Rattle.std.specs.Prelude as Rust
 use Rattle.penne.specs.Tree.{Spot, Ident, ok, err, stmt, stmts, Stm, Decl, constant, function, function_head, structure, import, bad_decl}
 use Rattle.penne.specs.Reader.{Cur, Got, got, ret, many, listed, nothing}
 use Rattle.penne.specs.Read.{to_stms, read_stmt, read_decl}
 use Rattle.penne.specs.Labels.{Labels, labels, labels_body, labels_decl, pop_scope}
 use Rattle.fields.specs.declared.counts.Counts as C
-use Rattle.fields.specs.declared.counts.Passed.{Passed}
-use Rattle.fields.specs.declared.counts.Passed.TheVariants as P
+use Rattle.fields.specs.declared.refusal.Refusal.{Refusal}
 use Rattle.tree.specs.declared.script.Layout.{Layout}
+use Rattle.label_references.specs.declared.shape.Shaped.{Shaped}
 use Rattle.fields.specs.Answers.{cursor, counts_of, Passes}
 use Rattle.tree.specs.Script.{LaidOut}
 use Rattle.labels.specs.declared.Labels as L
-use Rattle.label_references.specs.declared.shape.Shaped.{Shaped}
-use Rattle.label_references.specs.declared.shape.Shaped.TheVariants as Sh
-use Rattle.label_references.specs.declared.shape.Start.{Start}
-use Rattle.label_references.specs.declared.shape.Start.TheVariants as St
-use Rattle.label_references.specs.declared.shape.Body as BodyType
-use Rattle.label_references.specs.declared.shape.Body.TheVariants as B
 use Rattle.labels.specs.Outcomes.{labels_in, statements_in, body_of, body_outcomes, body_labels, outcomes_decls, labels_in_decls}
 use Rattle.labels.specs.Table.{list, Rows, turned, Told, Off}
 use Rattle.scopes.specs.Labels.{Along, stop, Named}
 use Rattle.labels.specs.Visit.{Held, Touches, VisitsList}
-use Rattle.label_references.specs.Lay.{Only, ListLaid, LaysList}
+use Rattle.label_references.specs.Lay.{Only, shaped, ListLaid, LaysList}
 use Rattle.label_references.specs.Pass.{StartOf, no_start, start_at, Starts, BodyLaid, no_body, body, LaysBody, fresh, Beyond, Decided, Decides, AllDecided, DecidesAll, Pass, uncounted}
 use Rattle.labels.proofs.Along.{along_append, along_length, along_le, along_map}
 use Rattle.labels.proofs.Rowing.{rows_high}
 use Rattle.labels.proofs.Visiting.{did_turned, labels_length}
 use Rattle.label_references.proofs.Leading.{Leads, leads_bind, leads_ret, passes_here, leads_unpassed}
-use Rattle.label_references.proofs.Laying.{to_end, never_not, many_step}
+use Rattle.label_references.proofs.Laying.{ok_same, never_ok, many_step}
 use Rattle.label_references.proofs.Growing.{Grown, grown_decl}
 
 -- THE BODY
@@ -47,39 +43,42 @@ none_some {A} e = let z : ◌≡◌ {A = ℕ} 0 1 = ap number e in absurd (omega
     number none = 0
     number (some a) = 1
 
-start_never : {X : Type 0} {n : ℕ} {c : C.Counts} → St.At n c ≡ St.Without → X
-start_never e = let z : ◌≡◌ {A = ℕ} 0 1 = cc in absurd (omega arith)
-
-without_go : {s : List ℕ} {names k : ℕ} {x : Decl Spot} {d : Cur} {r : Start} {w : List ℕ} → StartOf s names k x d r → r ≡ St.Without → BodyLaid k x d w B.Without w
+without_go : {s : List ℕ} {names k : ℕ} {x : Decl Spot} {d : Cur} {r : Result (Rust.Option (ℕ × C.Counts)) Refusal} {w : List ℕ} → StartOf s names k x d r → r ≡ Ok Rust.None → BodyLaid k x d w (Ok Rust.None) w
 without_go (no_start o z) e = no_body o z
-without_go (start_at ts e₁ o z q u) e = start_never e
+without_go (start_at ts e₁ o z q u) e = cc
 
-module _ {q : Got (Decl Spot)} {s : List ℕ} {names k : ℕ} {r : Start} (g : Starts q s names k r) where
-  pub body_without : {w : List ℕ} → r ≡ St.Without → LaysBody q k w B.Without w
-  body_without e = record { does = λ long h. without_go (g.does h) e }
+refused_go : {s : List ℕ} {names k : ℕ} {x : Decl Spot} {d : Cur} {r : Result (Rust.Option (ℕ × C.Counts)) Refusal} {e : Refusal} {X : Type 0} → StartOf s names k x d r → r ≡ Err e → X
+refused_go (no_start o z) e = cc
+refused_go (start_at ts e₁ o z q u) e = cc
 
-laid_go : {s : List ℕ} {names k n : ℕ} {x : Decl Spot} {d : Cur} {r : Start} {w w' : List ℕ} {a : Shaped} {c : C.Counts} → StartOf s names k x d r → r ≡ St.At n c → LaysList (listed (read_stmt 63) s (cursor n names (counts_of c))) names 63 c.statements w a w' → 13312 ≤ length w
+laid_go : {s : List ℕ} {names k n : ℕ} {x : Decl Spot} {d : Cur} {r : Result (Rust.Option (ℕ × C.Counts)) Refusal} {w w' : List ℕ} {a : Result Shaped Refusal} {c : C.Counts} → StartOf s names k x d r → r ≡ Ok (Rust.Some (n, c)) → LaysList (listed (read_stmt 63) s (cursor n names (counts_of c))) names 63 c.statements w a w' → 13312 ≤ length w
     → {X : Type 0} → ((ts : List (Stm Spot stmt)) (e : Cur) → body_of x ≡ some (to_stms ts) → c.statements ≡ k → d.counts.statements ≡ e.counts.statements → ListLaid names 63 c.statements c.statements [] ts e w a w' → X) → X
-laid_go (no_start o z) e l long f = start_never (sym e)
+laid_go (no_start o z) e l long f = cc
 laid_go {s} {names} {k} {n} {c = c} (start_at {n = n₁} {c = c₁} ts e₁ o z q u) e l long f =
-    let y : n₁ ≡ n = cc in
-    let t : c₁ ≡ c = cc in
-    let q₁ : listed (read_stmt 63) s (cursor n names (counts_of c)) ≡ got ts e₁ = subst (λ (i : C.Counts). listed (read_stmt 63) s (cursor n names (counts_of i)) ≡ got ts e₁) t (subst (λ (i : ℕ). listed (read_stmt 63) s (cursor i names (counts_of c₁)) ≡ got ts e₁) y q) in
-    f ts e₁ o (ap (λ (i : C.Counts). i.statements) (sym t) ∙ z) u (l.does long q₁)
+    let p : ◌≡◌ {A = ℕ × C.Counts} (n₁, c₁) (n, c) = cc in
+    let q₁ : listed (read_stmt 63) s (cursor n names (counts_of c)) ≡ got ts e₁ = subst (λ (i : ℕ × C.Counts). listed (read_stmt 63) s (cursor i.0 names (counts_of i.1)) ≡ got ts e₁) p q in
+    f ts e₁ o (ap (λ (i : ℕ × C.Counts). i.1.statements) (sym p) ∙ z) u (l.does long q₁)
 
-module _ {q : Got (Decl Spot)} {s : List ℕ} {names k : ℕ} {r : Start} (g : Starts q s names k r) {n : ℕ} {c : C.Counts} (e : r ≡ St.At n c) {w w' : List ℕ} {a : Shaped} (l : LaysList (listed (read_stmt 63) s (cursor n names (counts_of c))) names 63 c.statements w a w') where
-  pub body_unlaid : {b : BodyType.Body} {w'' : List ℕ} → a ≡ Sh.Not → LaysBody q k w b w''
-  body_unlaid z = record { does = λ long h. laid_go (g.does h) e l long λ ts e₁ o y u laid. never_not (sym laid.told ∙ z) }
+module _ {q : Got (Decl Spot)} {s : List ℕ} {names k : ℕ} {w : List ℕ} where
+  pub body_refused : {e : Refusal} {r : Result (Rust.Option ℕ) Refusal} {w' : List ℕ} → Starts q s names k (Err e) → LaysBody q k w r w'
+  body_refused g = record { does = λ long h. refused_go (g.does h) refl }
 
-  pub body_laid : {b last : ℕ} {more : C.Counts} → a ≡ Sh.To b more last → LaysBody q k w (B.Laid last) w'
-  body_laid {last = last} {more} z = record {
-    does = λ long {x} {d} h. laid_go (g.does h) e l long λ ts e₁ o y u laid.
-        let t = to_end (sym laid.told ∙ z) in
-        let top : laid.counts.statements ≡ d.counts.statements = sym (u ∙ ap (λ (i : Cur). i.counts.statements) laid.cur) in
-        body ts o
-        (subst (λ (i : ℕ). Rows w' 63 k (list (turned ts []) i) d.counts.statements) t.1.1 (subst (λ (i : ℕ). Rows w' 63 k (list (turned ts []) laid.last) i) top (subst (λ (i : ℕ). Rows w' 63 i (list (turned ts []) laid.last) laid.counts.statements) y laid.rows)))
-        (subst (λ (i : ℕ). Only k i w w') top (subst (λ (i : ℕ). Only i laid.counts.statements w w') y laid.only));
-  }
+  pub body_without : Starts q s names k (Ok Rust.None) → LaysBody q k w (Ok Rust.None) w
+  body_without g = record { does = λ long h. without_go (g.does h) refl }
+
+  module _ {n : ℕ} {c : C.Counts} (g : Starts q s names k (Ok (Rust.Some (n, c)))) {w' : List ℕ} where
+    pub body_unlaid : {e : Refusal} {r : Result (Rust.Option ℕ) Refusal} {w'' : List ℕ} → LaysList (listed (read_stmt 63) s (cursor n names (counts_of c))) names 63 c.statements w (Err e) w' → LaysBody q k w r w''
+    body_unlaid l = record { does = λ long h. laid_go (g.does h) refl l long λ ts e₁ o y u laid. never_ok laid.told }
+
+    pub body_laid : {a : Shaped} → LaysList (listed (read_stmt 63) s (cursor n names (counts_of c))) names 63 c.statements w (Ok a) w' → LaysBody q k w (Ok (Rust.Some a.last)) w'
+    body_laid {a} l = record {
+      does = λ long {x} {d} h. laid_go (g.does h) refl l long λ ts e₁ o y u laid.
+          let t : shaped laid.end laid.counts laid.last ≡ a = sym (ok_same laid.told) in
+          let top : laid.counts.statements ≡ d.counts.statements = sym (u ∙ ap (λ (i : Cur). i.counts.statements) laid.cur) in
+          body ts o
+          (subst (λ (i : Shaped). Rows w' 63 k (list (turned ts []) i.last) d.counts.statements) t (subst (λ (i : ℕ). Rows w' 63 k (list (turned ts []) laid.last) i) top (subst (λ (i : ℕ). Rows w' 63 i (list (turned ts []) laid.last) laid.counts.statements) y laid.rows)))
+          (subst (λ (i : ℕ). Only k i w w') top (subst (λ (i : ℕ). Only i laid.counts.statements w w') y laid.only));
+    }
 
 -- A DECLARATION
 
@@ -103,7 +102,7 @@ labels_some (structure f p i ms t) l e = none_some e
 labels_some (import b p) l e = none_some e
 labels_some (bad_decl z) l e = none_some e
 
-decided_none : {k next : ℕ} {x : Decl Spot} {d : Cur} {w w' : List ℕ} → BodyLaid k x d w B.Without w' → Decided k d.counts.statements next x w next w'
+decided_none : {k next : ℕ} {x : Decl Spot} {d : Cur} {w w' : List ℕ} → BodyLaid k x d w (Ok Rust.None) w' → Decided k d.counts.statements next x w next w'
 unfolding body_outcomes body_labels
 decided_none {k} {next} {x} {d} {w} (no_body o z) = record {
   told = subst (λ (i : ℕ). Along (Told w) k (body_outcomes (body_of x) (fresh next)) i) (sym z) (subst (λ (b : Option (Stm Spot stmts)). Along (Told w) k (body_outcomes b (fresh next)) k) (sym o) stop);
@@ -112,8 +111,15 @@ decided_none {k} {next} {x} {d} {w} (no_body o z) = record {
   beyond = record { long = refl; same = λ i o₁ o₂ o₃ o₄. refl };
 }
 
-pub decides_none : {q : Got (Decl Spot)} {k next : ℕ} {w w' : List ℕ} {r : BodyType.Body} → LaysBody q k w r w' → r ≡ B.Without → Decides q k next w next w'
-decides_none {q} {k} {w = w} {w'} g e = record { does = λ long top z {x} {d} h room. decided_none (subst (λ (i : BodyType.Body). BodyLaid k x d w i w') e (g.does long h)) }
+pub decides_none : {q : Got (Decl Spot)} {k next : ℕ} {w w' : List ℕ} → LaysBody q k w (Ok Rust.None) w' → Decides q k next w (Ok next) w'
+decides_none {next = next} g = record { does = λ long top z h room. (next, refl, decided_none (g.does long h)) }
+
+unlaid_go : {k : ℕ} {x : Decl Spot} {d : Cur} {w w' : List ℕ} {r : Result (Rust.Option ℕ) Refusal} {e : Refusal} {X : Type 0} → BodyLaid k x d w r w' → r ≡ Err e → X
+unlaid_go (no_body o z) e = cc
+unlaid_go (body ts o rows only) e = cc
+
+pub decides_refused : {q : Got (Decl Spot)} {k next : ℕ} {w w₁ w' : List ℕ} {e : Refusal} {r : Result ℕ Refusal} → LaysBody q k w (Err e) w₁ → Decides q k next w r w'
+decides_refused g = record { does = λ long top z h room. unlaid_go (g.does long h) refl }
 
 held_none : {next : ℕ} {w : List ℕ} → 0 < next → 13312 ≤ length w → Held w (record { count = 0; next = next }) (fresh next)
 unfolding fresh
@@ -130,7 +136,7 @@ beyond_go top o t = record {
   same = λ i o₁ o₂ o₃ o₄. t.same i o₁ o₂ o₃ (λ x y. o₄ (omega arith) (omega arith)) ∙ o.same i o₁ (λ x y. o₄ (omega arith) (omega arith)) (λ x y. o₄ (omega arith) (omega arith)) (λ x y. o₄ (omega arith) (omega arith));
 }
 
-decided_some : {k next last : ℕ} {x : Decl Spot} {d : Cur} {w w₁ w₂ : List ℕ} {b : L.Labels} → k ≤ 2048 → 0 < next → 13312 ≤ length w → next + length (body_labels (body_of x)) ≤ 1025 → BodyLaid k x d w (B.Laid last) w₁ → VisitsList 63 last (record { count = 0; next = next }) w₁ b w₂ → Decided k d.counts.statements next x w b.next w₂
+decided_some : {k next last : ℕ} {x : Decl Spot} {d : Cur} {w w₁ w₂ : List ℕ} {b : L.Labels} → k ≤ 2048 → 0 < next → 13312 ≤ length w → next + length (body_labels (body_of x)) ≤ 1025 → BodyLaid k x d w (Ok (Rust.Some last)) w₁ → VisitsList 63 last (record { count = 0; next = next }) w₁ b w₂ → Decided k d.counts.statements next x w b.next w₂
 unfolding body_outcomes body_labels
 decided_some {k} {next} {x = x} {d} {w₁ = w₁} {w₂} {b} top z long room (body ts o rows only) v =
     let held : Held w₁ (record { count = 0; next = next }) (fresh next) = held_none z (omega (arith, only.long)) in
@@ -143,8 +149,8 @@ decided_some {k} {next} {x = x} {d} {w₁ = w₁} {w₂} {b} top z long room (bo
       beyond = beyond_go (rows_high rows top) only did.touches;
     }
 
-pub decides_some : {q : Got (Decl Spot)} {k next last : ℕ} {w w₁ w₂ : List ℕ} {r : BodyType.Body} {b : L.Labels} → LaysBody q k w r w₁ → r ≡ B.Laid last → VisitsList 63 last (record { count = 0; next = next }) w₁ b w₂ → Decides q k next w b.next w₂
-decides_some {q} {k} {w = w} {w₁} g e v = record { does = λ long top z {x} {d} h room. decided_some top z long room (subst (λ (i : BodyType.Body). BodyLaid k x d w i w₁) e (g.does long h)) v }
+pub decides_some : {q : Got (Decl Spot)} {k next last : ℕ} {w w₁ w₂ : List ℕ} {b : L.Labels} → LaysBody q k w (Ok (Rust.Some last)) w₁ → VisitsList 63 last (record { count = 0; next = next }) w₁ b w₂ → Decides q k next w (Ok b.next) w₂
+decides_some {b = b} g v = record { does = λ long top z h room. (b.next, refl, decided_some top z long room (g.does long h) v) }
 
 -- THE DECLARATIONS
 
@@ -201,26 +207,38 @@ module _ {s : List ℕ} {names n at₀ : ℕ} {k₀ : C.Counts} {next₀ : ℕ} 
   pub deciding_done : rest ≡ 0 → DecidesAll (many read_decl n s (cursor at₀ names (counts_of k₀))) k₀ next₀ w₀ w
   deciding_done z = g.on w (subst (λ (i : ℕ). DecidesAll (many read_decl i s (cursor at names (counts_of k))) k next w w) (sym z) (none_decided s (cursor at names (counts_of k)) k refl))
 
-  module _ (z : rest ≡ 0 → ⊥) {r : Passed} (p : Passes read_decl s names k at r) where
-    pub deciding_halt : {w' : List ℕ} {i j : ℕ} → r ≡ P.Refused i j → DecidesAll (many read_decl n s (cursor at₀ names (counts_of k₀))) k₀ next₀ w₀ w'
-    deciding_halt {w'} e = g.on w' (record { does = λ long y le h₁ h₂ q. never.to q })
+  module _ (z : rest ≡ 0 → ⊥) where
+    pub deciding_halt : {w₁ w' : List ℕ} {e : Refusal} → Decides (read_decl s (cursor at names (counts_of k))) k.statements next w (Err e) w₁ → DecidesAll (many read_decl n s (cursor at₀ names (counts_of k₀))) k₀ next₀ w₀ w'
+    deciding_halt {w' = w'} one = g.on w' (record { does = λ long y le h₁ h₂ q. (never long y le h₁ h₂).to q })
+      where
+        never : 13312 ≤ length w → 0 < next → next ≤ k.entries + 1 → k.entries ≤ 1024 → k.statements ≤ 2048 → Leads (many read_decl rest s (cursor at names (counts_of k))) (λ xs d. AllDecided k.statements d.counts.statements next xs w w')
+        never long y le h₁ h₂ = many_step read_decl s _ rest z (leads_bind _ _ _ _ λ x d q.
+            let grown : Grown (length (body_labels (body_of x))) (cursor at names (counts_of k)) d = grown_decl s _ q in
+            let few : d.counts.entries ≤ 1024 = grown.entries h₁ in
+            never_ok (one.does long h₂ y q (omega (arith, grown.more))).1)
+
+    pub deciding_stop : {w' : List ℕ} {e : Refusal} → Passes read_decl s names k at (Err e) → DecidesAll (many read_decl n s (cursor at₀ names (counts_of k₀))) k₀ next₀ w₀ w'
+    deciding_stop {w'} p = g.on w' (record { does = λ long y le h₁ h₂ q. never.to q })
       where
         never : Leads (many read_decl rest s (cursor at names (counts_of k))) (λ xs d. AllDecided k.statements d.counts.statements next xs w w')
-        never = many_step read_decl s _ rest z (leads_unpassed p _ e)
+        never = many_step read_decl s _ rest z (leads_unpassed _ p)
 
-    pub deciding_more : {next₁ b : ℕ} {more : C.Counts} {w₁ : List ℕ} → Decides (read_decl s (cursor at names (counts_of k))) k.statements next w next₁ w₁ → r ≡ P.To b more → length w₁ ≡ length w → Deciding s names n at₀ k₀ next₀ w₀ (rest - 1) b more next₁ w₁
-    deciding_more {next₁} {b} {more} {w₁} one e l = record { long = l ∙ g.long; on = λ w₂ h. g.on w₂ (record { does = λ long y le h₁ h₂ q. (all w₂ h long y le h₁ h₂).to q }) }
+    pub deciding_more : {next₁ b : ℕ} {more : C.Counts} {w₁ : List ℕ} → Decides (read_decl s (cursor at names (counts_of k))) k.statements next w (Ok next₁) w₁ → Passes read_decl s names k at (Ok (b, more)) → length w₁ ≡ length w → Deciding s names n at₀ k₀ next₀ w₀ (rest - 1) b more next₁ w₁
+    deciding_more {next₁} {b} {more} {w₁} one p l = record { long = l ∙ g.long; on = λ w₂ h. g.on w₂ (record { does = λ long y le h₁ h₂ q. (all w₂ h long y le h₁ h₂).to q }) }
       where
+        decided : (x : Decl Spot) (d : Cur) → (after : ℕ) × (◌≡◌ {A = Result ℕ Refusal} (Ok next₁) (Ok after)) × Decided k.statements d.counts.statements next x w after w₁ → Decided k.statements d.counts.statements next x w next₁ w₁
+        decided x d (after, e, o) = subst (λ (i : ℕ). Decided k.statements d.counts.statements next x w i w₁) (sym (ok_same {E = Refusal} e)) o
+
         all : (w₂ : List ℕ) → DecidesAll (many read_decl (rest - 1) s (cursor b names (counts_of more))) more next₁ w₁ w₂ → 13312 ≤ length w → 0 < next → next ≤ k.entries + 1 → k.entries ≤ 1024 → k.statements ≤ 2048
             → Leads (many read_decl rest s (cursor at names (counts_of k))) (λ xs d. AllDecided k.statements d.counts.statements next xs w w₂)
         all w₂ h long y le h₁ h₂ = many_step read_decl s _ rest z (leads_bind _ _ _ _ λ x d q. leads_bind _ _ _ _ λ xs d₂ q₂. leads_ret _ _ _
-            (let c : cursor b names (counts_of more) ≡ d = passes_here p e q in
+            (let c : cursor b names (counts_of more) ≡ d = passes_here p q in
             let grown : Grown (length (body_labels (body_of x))) (cursor at names (counts_of k)) d = grown_decl s _ q in
             let m : more.entries ≡ d.counts.entries = ap (λ (i : Cur). i.counts.entries) c in
             let t : more.statements ≡ d.counts.statements = ap (λ (i : Cur). i.counts.statements) c in
             let few : d.counts.entries ≤ 1024 = grown.entries h₁ in
             let top : d.counts.statements ≤ 2048 = grown.statements h₂ in
-            let this = one.does long h₂ y q (omega (arith, grown.more)) in
+            let this = decided x d (one.does long h₂ y q (omega (arith, grown.more))) in
             let n : next₁ ≡ next + length (body_labels (body_of x)) = along_length this.named in
             let others = h.does (omega arith) (omega arith) (omega (arith, grown.more)) (omega arith) (omega arith) (subst (λ (i : Cur). many read_decl (rest - 1) s i ≡ got xs d₂) (sym c) q₂) in
             all_more y (omega (arith, grown.more)) top this (subst (λ (i : ℕ). AllDecided i d₂.counts.statements next₁ xs w₁ w₂) t others)))
@@ -283,3 +301,7 @@ pass_done {s} {l} {w} {w₁} {ys} long g same e back = record {
   cleared = λ h i h₁ h₂. clear_inside w₁ ys (omega arith) e i h₁ h₂;
   kept = λ t i o₁ o₂ o₃. clear_other w₁ ys (omega arith) e i o₃ ∙ (all_decided long g t).beyond.same i o₁ (λ x y. o₂ x (omega arith)) (λ x y. o₂ (omega arith) y) o₃;
 }
+
+pub ruleset function_labels_laws = (decides_refused, decides_none, decides_some)
+
+pub ruleset function_body_laws = (body_refused, body_without, body_unlaid, body_laid)

@@ -6,25 +6,21 @@ use mathlib.Core.Option.{none, some}
 use Prim.Native.Nat.{ℕ, zero, suc, ◌+◌}
 use native.Mathlib.Omega.{arith}
 use lib.ListN.{get_or}
+use Rattle.std.specs.Prelude.{Result, Ok, Err}
+use Rattle.std.specs.Prelude as Rust
 use Rattle.penne.specs.Tree.{Spot, Ident, Maybe, ok, Ty, expr, stmt, Stm, Body, Decl, function, Param}
 use Rattle.penne.specs.Reader.{Counts, Cur, Got, got, Reader, ◌>>=◌, ret, below, many, listed, plus, fits, counting, counted, nothing, a_container, a_function, an_entry}
-use Rattle.penne.specs.Read.{maybe, read_ty, to_stms, read_stmt, read_body, read_param, DeclKind, k_constant, k_function, k_function_head, k_structure, k_import, k_bad_decl, decl_kinds, decl_head, decl_counts, decl_of, read_decl, read_constant, read_function_head, read_structure, read_import}
-use Rattle.fields.specs.declared.number.Read.{Read}
-use Rattle.fields.specs.declared.number.Read.TheVariants.{Number, Refused}
+use Rattle.penne.specs.Read.{ident, read_function, maybe, read_ty, to_stms, read_stmt, read_body, read_param, DeclKind, k_constant, k_function, k_function_head, k_structure, k_import, k_bad_decl, decl_kinds, decl_head, decl_counts, decl_of, read_decl, read_constant, read_function_head, read_structure, read_import}
 use Rattle.fields.specs.declared.counts.Counts as C
-use Rattle.fields.specs.declared.counts.Counted.{Counted}
-use Rattle.fields.specs.declared.counts.Counted.TheVariants.{Are, TooMany}
-use Rattle.fields.specs.declared.counts.Passed.{Passed}
-use Rattle.fields.specs.declared.counts.Passed.TheVariants as P
-use Rattle.fields.specs.Answers.{cursor, Gives, counts_of, Counting, passed_by, Passes}
-use Rattle.fields.proofs.Chain.{after}
+use Rattle.fields.specs.declared.refusal.Refusal.{Refusal}
+use Rattle.fields.specs.Answers.{cursor, forget, Gives, Ends, Skips, counts_of, Counting, Passes, two_places}
+use Rattle.fields.proofs.Chain.{after, reads, number_got, number_refused}
 use Rattle.fields.proofs.Counting.{fitted, counting_fits}
-use Rattle.tree.proofs.Statements.{kind_value, decl_unread, decl_many}
-use Rattle.label_references.specs.declared.shape.Start.{Start}
-use Rattle.label_references.specs.declared.shape.Start.TheVariants as St
+use Rattle.tree.proofs.Statements.{kind_value}
+use Rattle.tree.proofs.Declarations.{decl_end, decl_is}
 use Rattle.labels.specs.Outcomes.{statements_in, body_of}
 use Rattle.label_references.specs.Pass.{StartOf, no_start, start_at, Starts}
-use Rattle.label_references.proofs.Leading.{Leads, leads_same, leads_ret, leads_bind, passes_here, leads_never}
+use Rattle.label_references.proofs.Leading.{Leads, leads_refused, leads_same, leads_ret, leads_bind, leads_part, leads_unpart, leads_unpassed, places_lead, places_unled, passes_here}
 use Rattle.label_references.proofs.Keeping.{Keeps, keeps_num, keeps_below, keeps_place, keeps_ident, keeps_bytes, keeps_poison, keeps_maybe, keeps_option, keeps_ty, keeps_read}
 use Rattle.label_references.proofs.Growing.{counting_leads}
 use Rattle.label_references.proofs.Laying.{either_unled, either_leads, either_second}
@@ -79,7 +75,7 @@ bodiless_kind (suc (suc (suc (suc zero)))) z = bodiless_bind (stays_keeps keeps_
 bodiless_kind (suc (suc (suc (suc (suc zero))))) z = bodiless_bind (stays_keeps keeps_poison) λ p. bodiless_ret _ refl
 bodiless_kind (suc (suc (suc (suc (suc (suc v)))))) z = bodiless_bind (stays_keeps keeps_poison) λ p. bodiless_ret _ refl
 
-pub starts_leads : {q : Got (Decl Spot)} {s : List ℕ} {names k : ℕ} {r : Start} → Leads q (λ x d. StartOf s names k x d r) → Starts q s names k r
+pub starts_leads : {q : Got (Decl Spot)} {s : List ℕ} {names k : ℕ} {r : Result (Rust.Option (ℕ × C.Counts)) Refusal} → Leads q (λ x d. StartOf s names k x d r) → Starts q s names k r
 starts_leads l = record { does = λ q. l.to q }
 
 -- THE HEAD
@@ -93,40 +89,46 @@ no_statement k_structure = refl
 no_statement k_import = refl
 no_statement k_bad_decl = refl
 
-module _ (names : ℕ) (k : C.Counts) {s : List ℕ} {at : ℕ} {m₁ : Read} (h : Gives (below 6) s at m₁) where
-  pub start_unread : {r : Start} {i p : ℕ} → m₁ ≡ Refused i p → Starts (read_decl s (cursor at names (counts_of k))) s names k.statements r
-  start_unread {i = i} {p} e = starts_leads (leads_never (decl_unread h {x = P.Refused i p} e (sym (ap (passed_by k) e))) refl)
+-- the declaration's end, by what its kind was read as
+ended_at : (s : List ℕ) (c : Cur) {q : Got ℕ} → below 6 s c ≡ q → forget (read_decl s c) ≡ decl_end s c.at q
+ended_at s c e = decl_is s c ∙ ap (decl_end s c.at) e
 
-  module _ {v n : ℕ} (e : m₁ ≡ Number v n) {b : C.Counts} {y : Counted} (g : Counting k b y) (u : counts_of b ≡ decl_counts (get_or decl_kinds v k_bad_decl)) where
-    pub start_many : {r : Start} → y ≡ TooMany → Starts (read_decl s (cursor at names (counts_of k))) s names k.statements r
-    start_many t = starts_leads (leads_never (decl_many h e g u t) refl)
+module _ (names : ℕ) (k : C.Counts) {s : List ℕ} {at : ℕ} where
+  module _ {r : Result (Rust.Option (ℕ × C.Counts)) Refusal} where
+    pub start_unread : {e : Refusal} → Gives (below 6) s at (Err e) → Starts (read_decl s (cursor at names (counts_of k))) s names k.statements r
+    start_unread h = starts_leads (leads_refused _ (ended_at s _ (h.is names (counts_of k))))
 
-    decl_leads : {Q : Decl Spot → Cur → Type 0} {c : C.Counts} → y ≡ Are c → Leads (decl_of 63 (get_or decl_kinds v k_bad_decl) s (cursor n names (counts_of c))) Q → Leads (read_decl s (cursor at names (counts_of k))) Q
+    pub start_many : {v n : ℕ} {b : C.Counts} → Gives (below 6) s at (Ok (v, n)) → Counting k b Rust.None → counts_of b ≡ decl_counts (get_or decl_kinds v k_bad_decl) → Starts (read_decl s (cursor at names (counts_of k))) s names k.statements r
+    start_many h g u = starts_leads (leads_refused _ {i = 8} {p = at} (ended_at s _ (h.is names (counts_of k)) ∙ rw (← u, g.is) refl))
+
+  module _ {v n : ℕ} (h : Gives (below 6) s at (Ok (v, n))) {b c : C.Counts} (g : Counting k b (Rust.Some c)) (u : counts_of b ≡ decl_counts (get_or decl_kinds v k_bad_decl)) where
+    decl_leads : {Q : Decl Spot → Cur → Type 0} → Leads (decl_of 63 (get_or decl_kinds v k_bad_decl) s (cursor n names (counts_of c))) Q → Leads (read_decl s (cursor at names (counts_of k))) Q
     unfolding read_decl decl_head ◌>>=◌ counted
-    decl_leads {Q} {c} t l =
+    decl_leads {Q} l =
         let x : DeclKind = get_or decl_kinds v k_bad_decl in
-        let o : counts_of c ≡ plus (counts_of k) (decl_counts x) = (fitted g t).1 ∙ ap (plus (counts_of k)) u in
-        leads_same (ap (after (decl_of 63) s) (counting_fits decl_counts decl_head s _ (kind_value _ 6 h (counts_of k) e) (ap (λ (i : Counts). fits (plus (counts_of k) i)) (sym u) ∙ (fitted g t).0))) (subst (λ (i : Counts). Leads (decl_of 63 x s (cursor n names i)) Q) o l)
+        let o : counts_of c ≡ plus (counts_of k) (decl_counts x) = (fitted g).1 ∙ ap (plus (counts_of k)) u in
+        leads_same (ap (after (decl_of 63) s) (counting_fits decl_counts decl_head s _ (kind_value (λ i. get_or decl_kinds i k_bad_decl) 6 h (counts_of k)) (ap (λ (i : Counts). fits (plus (counts_of k) i)) (sym u) ∙ (fitted g).0)))
+        (subst (λ (i : Counts). Leads (decl_of 63 x s (cursor n names i)) Q) o l)
 
-    stays_go : {c : C.Counts} → y ≡ Are c → c.statements ≡ k.statements
+    stays_go : c.statements ≡ k.statements
     unfolding plus
-    stays_go {c} t =
+    stays_go =
         let o : b.statements ≡ 0 = ap (λ (x : Counts). x.statements) u ∙ no_statement (get_or decl_kinds v k_bad_decl) in
-        let c₁ : c.statements ≡ k.statements + b.statements = ap (λ (x : Counts). x.statements) (fitted g t).1 in
+        let c₁ : c.statements ≡ k.statements + b.statements = ap (λ (x : Counts). x.statements) (fitted g).1 in
         omega arith
 
-    pub start_other : {c : C.Counts} → y ≡ Are c → (v ≡ 1 → ⊥) → Starts (read_decl s (cursor at names (counts_of k))) s names k.statements St.Without
-    start_other {c} t z = starts_leads (decl_leads t (record { to = λ q. let (o, i) = ((bodiless_kind v z).at s (cursor n names (counts_of c))).to q in no_start o (i ∙ stays_go t) }))
+    pub start_other : (v ≡ 1 → ⊥) → Starts (read_decl s (cursor at names (counts_of k))) s names k.statements (Ok Rust.None)
+    start_other z = starts_leads (decl_leads (record { to = λ q. let (o, i) = ((bodiless_kind v z).at s (cursor n names (counts_of c))).to q in no_start o (i ∙ stays_go) }))
 
-    pub start_function : {c : C.Counts} {r : Start} → y ≡ Are c → v ≡ 1 → Starts (decl_of 63 (get_or decl_kinds 1 k_bad_decl) s (cursor n names (counts_of c))) s names c.statements r → Starts (read_decl s (cursor at names (counts_of k))) s names k.statements r
-    start_function {c} {r} t z l = starts_leads (decl_leads t (record { to = λ {x} {d = d} q. subst (λ (i : ℕ). StartOf s names i x d r) (stays_go t) ((subst (λ (i : ℕ). Starts (decl_of 63 (get_or decl_kinds i k_bad_decl) s (cursor n names (counts_of c))) s names c.statements r) (sym z) l).does q) }))
+    pub start_function : {r : Result (Rust.Option (ℕ × C.Counts)) Refusal} → v ≡ 1 → Starts (decl_of 63 (get_or decl_kinds 1 k_bad_decl) s (cursor n names (counts_of c))) s names c.statements r → Starts (read_decl s (cursor at names (counts_of k))) s names k.statements r
+    start_function {r} z l = starts_leads (decl_leads (record { to = λ {x} {d = d} q. subst (λ (i : ℕ). StartOf s names i x d r) stays_go ((subst (λ (i : ℕ). Starts (decl_of 63 (get_or decl_kinds i k_bad_decl) s (cursor n names (counts_of c))) s names c.statements r) (sym z) l).does q) }))
 
 -- INSIDE A FUNCTION
 
-pub leads_params : {B : Type 0} {Q : B → Cur → Type 0} (f : List (Param Spot) → Reader B) {s : List ℕ} {names : ℕ} {k : C.Counts} {at : ℕ} {r : Passed} → Passes (listed (read_param 63 false)) s names k at r → {n : ℕ} {c : C.Counts} → r ≡ P.To n c
+pub leads_params : {B : Type 0} {Q : B → Cur → Type 0} (f : List (Param Spot) → Reader B) {s : List ℕ} {names : ℕ} {k : C.Counts} {at n : ℕ} {c : C.Counts} → Passes (listed (read_param 63 false)) s names k at (Ok (n, c))
     → ((ps : List (Param Spot)) → c.statements ≡ k.statements → Leads (f ps s (cursor n names (counts_of c))) Q) → Leads ((listed (read_param 63 false) >>= f) s (cursor at names (counts_of k))) Q
-leads_params {Q = Q} f {s} {names} {k} {at} g {n} {c} e h = leads_bind f _ _ _ λ ps d q.
-    let z : cursor n names (counts_of c) ≡ d = passes_here g e q in
+leads_params {Q = Q} f {s} {names} {k} {at} {n} {c} g h = leads_bind f _ _ _ λ ps d q.
+    let z : cursor n names (counts_of c) ≡ d = passes_here g q in
     let o : c.statements ≡ k.statements = ap (λ (y : Cur). y.counts.statements) z ∙ ((stays_listed (stays_param 63 false)).at s (cursor at names (counts_of k))).to q in
     subst (λ (y : Cur). Leads (f ps s y) Q) z (h ps o)
 
@@ -141,30 +143,70 @@ body_go s names n c = leads_bind _ _ _ _ λ b d q. leads_ret _ _ _ (found.to q)
     found : Leads (read_body 63 s (cursor n names (counts_of c))) (λ b d. Inside s names n c (ok b) d)
     found = leads_bind _ _ _ _ λ ts e q. leads_bind _ _ _ _ λ v e₁ q₁. leads_bind _ _ _ _ λ i e₂ q₂. leads_ret _ _ _ (inside ts e refl q ((keeps_ident.at _ _).to q₂ ∙ ((keeps_option (keeps_read 63 expr)).at _ _).to q₁))
 
-module _ {s : List ℕ} (names : ℕ) {at : ℕ} {m₁ : Read} (g : Gives (below 2) s at m₁) (c : C.Counts) where
-  pub inside_unread : {B : Type 0} {Q : B → Cur → Type 0} (f : Maybe Spot (Body Spot) → Reader B) {i p : ℕ} → m₁ ≡ Refused i p → Leads ((maybe (read_body 63) >>= f) s (cursor at names (counts_of c))) Q
+module _ {s : List ℕ} (names : ℕ) {at : ℕ} (c : C.Counts) where
+  pub inside_unread : {B : Type 0} {Q : B → Cur → Type 0} (f : Maybe Spot (Body Spot) → Reader B) {e : Refusal} → Gives (below 2) s at (Err e) → Leads ((maybe (read_body 63) >>= f) s (cursor at names (counts_of c))) Q
   unfolding maybe
-  inside_unread {Q = Q} f e = leads_bind f _ _ _ λ b d q. (either_unled {Q = λ b d. Leads (f b s d) Q} _ _ names g _ e).to q
+  inside_unread {Q = Q} f g = leads_bind f _ _ _ λ b d q. (either_unled {Q = λ b d. Leads (f b s d) Q} _ _ names _ g).to q
 
-  module _ {v n : ℕ} (e : m₁ ≡ Number v n) {k : ℕ} (z : c.statements ≡ k) (make : Maybe Spot (Body Spot) → Maybe Spot (Ty Spot) → Decl Spot) (has : (b : Maybe Spot (Body Spot)) (t : Maybe Spot (Ty Spot)) → body_of (make b t) ≡ statements_in b) where
-    pub inside_poison : (v ≡ 0 → ⊥) → Leads ((maybe (read_body 63) >>= λ b. maybe (read_ty 63 false) >>= λ t. ret (make b t)) s (cursor at names (counts_of c))) (λ x d. StartOf s names k x d St.Without)
+  module _ {v n : ℕ} (g : Gives (below 2) s at (Ok (v, n))) {k : ℕ} (z : c.statements ≡ k) (make : Maybe Spot (Body Spot) → Maybe Spot (Ty Spot) → Decl Spot) (has : (b : Maybe Spot (Body Spot)) (t : Maybe Spot (Ty Spot)) → body_of (make b t) ≡ statements_in b) where
+    pub inside_poison : (v ≡ 0 → ⊥) → Leads ((maybe (read_body 63) >>= λ b. maybe (read_ty 63 false) >>= λ t. ret (make b t)) s (cursor at names (counts_of c))) (λ x d. StartOf s names k x d (Ok Rust.None))
     unfolding maybe statements_in
     inside_poison y = leads_bind _ _ _ _ λ b d q. leads_bind _ _ _ _ λ t d₁ q₁. leads_ret _ _ _
         (let (o, w) = found.to q in no_start (has b t ∙ o) (ap (λ (i : Counts). i.statements) (((keeps_maybe (keeps_ty 63 false)).at _ _).to q₁ ∙ w) ∙ z))
       where
         found : Leads (maybe (read_body 63) s (cursor at names (counts_of c))) (λ b d. (statements_in b ≡ none) × (d.counts ≡ counts_of c))
-        found = either_second _ _ names g _ e y (leads_bind _ _ _ _ λ p d q. leads_ret _ _ _ (refl, (keeps_poison.at _ _).to q))
+        found = either_second _ _ names _ g y (leads_bind _ _ _ _ λ p d q. leads_ret _ _ _ (refl, (keeps_poison.at _ _).to q))
 
-    pub inside_body : v ≡ 0 → Leads ((maybe (read_body 63) >>= λ b. maybe (read_ty 63 false) >>= λ t. ret (make b t)) s (cursor at names (counts_of c))) (λ x d. StartOf s names k x d (St.At n c))
+    pub inside_body : v ≡ 0 → Leads ((maybe (read_body 63) >>= λ b. maybe (read_ty 63 false) >>= λ t. ret (make b t)) s (cursor at names (counts_of c))) (λ x d. StartOf s names k x d (Ok (Rust.Some (n, c))))
     unfolding maybe
     inside_body y = leads_bind _ _ _ _ λ b d q. leads_bind _ _ _ _ λ t d₁ q₁. leads_ret _ _ _ (go b t d d₁ (found.to q) (((keeps_maybe (keeps_ty 63 false)).at _ _).to q₁))
       where
         found : Leads (maybe (read_body 63) s (cursor at names (counts_of c))) (λ b d. Inside s names n c b d)
-        found = either_leads _ _ names g _ e y (body_go s names n c)
+        found = either_leads _ _ names _ g y (body_go s names n c)
 
-        go : (b : Maybe Spot (Body Spot)) (t : Maybe Spot (Ty Spot)) (d d₁ : Cur) → Inside s names n c b d → d₁.counts ≡ d.counts → StartOf s names k (make b t) d₁ (St.At n c)
+        go : (b : Maybe Spot (Body Spot)) (t : Maybe Spot (Ty Spot)) (d d₁ : Cur) → Inside s names n c b d → d₁.counts ≡ d.counts → StartOf s names k (make b t) d₁ (Ok (Rust.Some (n, c)))
         go b t d d₁ (inside ts e₁ o q w) u = start_at ts e₁ (has b t ∙ o) z q (ap (λ (i : Counts). i.statements) (u ∙ w))
 
 pub function_has : (f : ℕ) (p q : Spot) (i : Ident Spot) (ps : List (Param Spot)) (b : Maybe Spot (Body Spot)) (t : Maybe Spot (Ty Spot)) → body_of (function f p q i ps b t) ≡ statements_in b
 unfolding body_of
 function_has f p q i ps b t = refl
+
+-- a function's parts, one after another, up to its body
+module _ {s : List ℕ} {names : ℕ} (k : C.Counts) {at : ℕ} where
+  pub function_flagless : {e : Refusal} {r : Result (Rust.Option (ℕ × C.Counts)) Refusal} → Gives (below 32) s at (Err e) → Starts (read_function 63 s (cursor at names (counts_of k))) s names k.statements r
+  unfolding read_function
+  function_flagless g = starts_leads (leads_unpart _ _ (number_refused {names = names} (reads g)))
+
+  module _ {v a : ℕ} (g : Gives (below 32) s at (Ok (v, a))) where
+    pub function_placeless : {e : Refusal} {r : Result (Rust.Option (ℕ × C.Counts)) Refusal} → Skips two_places s a (Err e) → Starts (read_function 63 s (cursor at names (counts_of k))) s names k.statements r
+    unfolding read_function
+    function_placeless g₁ = starts_leads (leads_part _ _ (number_got {names = names} (reads g)) λ f. places_unled _ _ _ g₁)
+
+    module _ {b : ℕ} (g₁ : Skips two_places s a (Ok b)) where
+      pub function_nameless : {e : Refusal} {r : Result (Rust.Option (ℕ × C.Counts)) Refusal} → Ends ident s names b (Err e) → Starts (read_function 63 s (cursor at names (counts_of k))) s names k.statements r
+      unfolding read_function
+      function_nameless g₂ = starts_leads (leads_part _ _ (number_got {names = names} (reads g)) λ f. places_lead _ _ _ g₁ λ p q. leads_unpart _ _ g₂)
+
+      module _ {d : ℕ} (g₂ : Ends ident s names b (Ok d)) where
+        pub function_listless : {e : Refusal} {r : Result (Rust.Option (ℕ × C.Counts)) Refusal} → Passes (listed (read_param 63 false)) s names k d (Err e) → Starts (read_function 63 s (cursor at names (counts_of k))) s names k.statements r
+        unfolding read_function
+        function_listless g₃ = starts_leads (leads_part _ _ (number_got {names = names} (reads g)) λ f. places_lead _ _ _ g₁ λ p q. leads_part _ _ g₂ λ i. leads_unpassed _ g₃)
+
+        module _ {h : ℕ} {c : C.Counts} (g₃ : Passes (listed (read_param 63 false)) s names k d (Ok (h, c))) where
+          function_on : (r : Result (Rust.Option (ℕ × C.Counts)) Refusal) → ((f : ℕ) (p q : Spot) (i : Ident Spot) (ps : List (Param Spot)) → c.statements ≡ k.statements
+              → Leads ((maybe (read_body 63) >>= λ b. maybe (read_ty 63 false) >>= λ t. ret (function f p q i ps b t)) s (cursor h names (counts_of c))) (λ x d. StartOf s names k.statements x d r)) → Starts (read_function 63 s (cursor at names (counts_of k))) s names k.statements r
+          unfolding read_function
+          function_on r l = starts_leads (leads_part _ _ (number_got {names = names} (reads g)) λ f. places_lead _ _ _ g₁ λ p q. leads_part _ _ g₂ λ i. leads_params _ g₃ λ ps z. l f p q i ps z)
+
+          pub function_tagless : {e : Refusal} {r : Result (Rust.Option (ℕ × C.Counts)) Refusal} → Gives (below 2) s h (Err e) → Starts (read_function 63 s (cursor at names (counts_of k))) s names k.statements r
+          function_tagless g₄ = function_on _ (λ f p q i ps z. inside_unread names c _ g₄)
+
+          pub function_bodiless : {t n : ℕ} → Gives (below 2) s h (Ok (t, n)) → (t ≡ 0 → ⊥) → Starts (read_function 63 s (cursor at names (counts_of k))) s names k.statements (Ok Rust.None)
+          function_bodiless g₄ y = function_on _ (λ f p q i ps z. inside_poison names c g₄ z _ (function_has f p q i ps) y)
+
+          pub function_start : {t n : ℕ} → Gives (below 2) s h (Ok (t, n)) → t ≡ 0 → Starts (read_function 63 s (cursor at names (counts_of k))) s names k.statements (Ok (Rust.Some (n, c)))
+          function_start g₄ y = function_on _ (λ f p q i ps z. inside_body names c g₄ z _ (function_has f p q i ps) y)
+
+pub ruleset body_start_laws = (start_unread, start_many, start_function)
+
+pub ruleset inside_function_laws = (function_flagless, function_placeless, function_nameless, function_listless, function_start)

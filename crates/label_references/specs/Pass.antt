@@ -1,5 +1,5 @@
 -- What the pass promises of a declaration and of all of them, whatever the definition reads.
-use Rattle.std.specs.Prelude.{ℕ, ◌+◌, ◌<◌, ◌≤◌, ◌≡◌, List, [], length, get_or}
+use Rattle.std.specs.Prelude.{ℕ, ◌+◌, ◌<◌, ◌≤◌, ◌≡◌, List, [], length, get_or, Option, Some, None, Result, Ok}
 use Rattle.std.proofs.Math.Option.{none, some}
 use Rattle.penne.specs.Tree.{Spot, stmt, Stm, Decl}
 use Rattle.penne.specs.Reader.{Cur, Got, got, listed}
@@ -8,31 +8,28 @@ use Rattle.penne.specs.Labels.{Labels, labels_decl}
 use Rattle.fields.specs.Answers.{cursor, counts_of}
 use Rattle.tree.specs.Script.{LaidOut}
 use Rattle.fields.specs.declared.counts.Counts as C
+use Rattle.fields.specs.declared.refusal.Refusal.{Refusal}
 use Rattle.tree.specs.declared.script.Layout.{Layout}
-use Rattle.label_references.specs.declared.shape.Start.{Start}
-use Rattle.label_references.specs.declared.shape.Start.TheVariants as St
-use Rattle.label_references.specs.declared.shape.Body.{Body}
-use Rattle.label_references.specs.declared.shape.Body.TheVariants as B
 use Rattle.labels.specs.Outcomes.{body_of, body_outcomes, body_labels, outcomes_decls, labels_in_decls}
 use Rattle.labels.specs.Table.{list, Rows, turned, Told, Off}
 use Rattle.scopes.specs.Labels.{Along, Named}
 use Rattle.label_references.specs.Lay.{Only}
 
 -- where the statements of the declaration x begin, that is read as far as d; k statements are counted before it
-pub data StartOf (s : List ℕ) (names k : ℕ) (x : Decl Spot) (d : Cur) : Start → Type 0 where
-  no_start : body_of x ≡ none → d.counts.statements ≡ k → StartOf s names k x d St.Without
+pub data StartOf (s : List ℕ) (names k : ℕ) (x : Decl Spot) (d : Cur) : Result (Option (ℕ × C.Counts)) Refusal → Type 0 where
+  no_start : body_of x ≡ none → d.counts.statements ≡ k → StartOf s names k x d (Ok None)
   start_at : {n : ℕ} {c : C.Counts} (ts : List (Stm Spot stmt)) (e : Cur) → body_of x ≡ some (to_stms ts) → c.statements ≡ k
-      → listed (read_stmt 63) s (cursor n names (counts_of c)) ≡ got ts e → d.counts.statements ≡ e.counts.statements → StartOf s names k x d (St.At n c)
+      → listed (read_stmt 63) s (cursor n names (counts_of c)) ≡ got ts e → d.counts.statements ≡ e.counts.statements → StartOf s names k x d (Ok (Some (n, c)))
 
-pub record Starts (q : Got (Decl Spot)) (s : List ℕ) (names k : ℕ) (r : Start) : Type 0 where
+pub record Starts (q : Got (Decl Spot)) (s : List ℕ) (names k : ℕ) (r : Result (Option (ℕ × C.Counts)) Refusal) : Type 0 where
   pub does : {x : Decl Spot} {d : Cur} → q ≡ got x d → StartOf s names k x d r
 
 -- the statements of x, the first of number k, stand in the rows
-pub data BodyLaid (k : ℕ) (x : Decl Spot) (d : Cur) (w : List ℕ) : Body → List ℕ → Type 0 where
-  no_body : body_of x ≡ none → d.counts.statements ≡ k → BodyLaid k x d w B.Without w
-  body : {last : ℕ} {w' : List ℕ} (ts : List (Stm Spot stmt)) → body_of x ≡ some (to_stms ts) → Rows w' 63 k (list (turned ts []) last) d.counts.statements → Only k d.counts.statements w w' → BodyLaid k x d w (B.Laid last) w'
+pub data BodyLaid (k : ℕ) (x : Decl Spot) (d : Cur) (w : List ℕ) : Result (Option ℕ) Refusal → List ℕ → Type 0 where
+  no_body : body_of x ≡ none → d.counts.statements ≡ k → BodyLaid k x d w (Ok None) w
+  body : {last : ℕ} {w' : List ℕ} (ts : List (Stm Spot stmt)) → body_of x ≡ some (to_stms ts) → Rows w' 63 k (list (turned ts []) last) d.counts.statements → Only k d.counts.statements w w' → BodyLaid k x d w (Ok (Some last)) w'
 
-pub record LaysBody (q : Got (Decl Spot)) (k : ℕ) (w : List ℕ) (r : Body) (w' : List ℕ) : Type 0 where
+pub record LaysBody (q : Got (Decl Spot)) (k : ℕ) (w : List ℕ) (r : Result (Option ℕ) Refusal) (w' : List ℕ) : Type 0 where
   pub does : 13312 ≤ length w → {x : Decl Spot} {d : Cur} → q ≡ got x d → BodyLaid k x d w r w'
 
 -- the pass before a declaration: no label is in scope
@@ -51,8 +48,8 @@ pub record Decided (k k' next : ℕ) (x : Decl Spot) (w : List ℕ) (after : ℕ
   pub next_is : (labels_decl x (fresh next)).1 ≡ fresh after
   pub beyond : Beyond k k' next w w'
 
-pub record Decides (q : Got (Decl Spot)) (k next : ℕ) (w : List ℕ) (r : ℕ) (w' : List ℕ) : Type 0 where
-  pub does : 13312 ≤ length w → k ≤ 2048 → 0 < next → {x : Decl Spot} {d : Cur} → q ≡ got x d → next + length (body_labels (body_of x)) ≤ 1025 → Decided k d.counts.statements next x w r w'
+pub record Decides (q : Got (Decl Spot)) (k next : ℕ) (w : List ℕ) (r : Result ℕ Refusal) (w' : List ℕ) : Type 0 where
+  pub does : 13312 ≤ length w → k ≤ 2048 → 0 < next → {x : Decl Spot} {d : Cur} → q ≡ got x d → next + length (body_labels (body_of x)) ≤ 1025 → (after : ℕ) × (r ≡ Ok after) × Decided k d.counts.statements next x w after w'
 
 -- nothing is counted yet
 abbrev pub uncounted : C.Counts

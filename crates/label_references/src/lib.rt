@@ -11,11 +11,11 @@ ghost use Rattle.fields.specs.Answers.{cursor, counts_of};
 ghost use Rattle.tree.specs.Ends.{Known};
 ghost use Rattle.label_references.specs.Pass.{uncounted, Decides, DecidesAll, Pass};
 
-use fields::counts::{Counts, Passed};
+use fields::counts::Counts;
+use fields::refusal::Refusal;
 use labels::{Labels, visit_list};
 use memory::layout::{LABEL_STACK_END, SHAPES, WORDS};
-use memory::words::clear_words;
-use shape::{Body, function_body};
+use shape::function_body;
 use tree::ends::past;
 use tree::script::Layout;
 
@@ -26,36 +26,27 @@ pub fn label_references(tree: &[u8], work: &mut [u32], ends: &[u32], layout: Lay
     if work.len() < WORDS {
         return;
     }
-    declarations(tree, work, ends, layout);
-    clear_words(&mut work[SHAPES..LABEL_STACK_END]);
+    // The reader let this tree pass: nothing of it is refused here.
+    let _ = declarations(tree, work, ends, layout);
+    work[SHAPES..LABEL_STACK_END].fill(0);
 }
 
-fn declarations(tree: &[u8], work: &mut [u32], ends: &[u32], layout: Layout)
+fn declarations(tree: &[u8], work: &mut [u32], ends: &[u32], layout: Layout) -> Result<(), Refusal>
     ensures { Known tree.now layout.names ends.now → DecidesAll (many read_decl layout.count tree.now (cursor layout.first layout.names (counts_of uncounted))) uncounted 1 work.old work.new }
 {
     let names = layout.names;
-    let mut rest = layout.count;
     let mut at = layout.first;
-    let mut so_far = Counts {
-        containers: 0,
-        functions: 0,
-        entries: 0,
-        statements: 0,
-    };
-    let mut next_id = 1u32;
-    while rest != 0 {
-        next_id = function_labels(tree, work, names, at, so_far, next_id);
-        let one = past(tree, ends, names, so_far, at, rest);
-        let Passed::To(behind, more) = one else {
-            return;
-        };
-        at = behind;
-        so_far = more;
-        rest -= 1;
+    let mut counts = Counts::NONE;
+    let mut next_id = 1;
+    for row in (0..layout.count).rev() {
+        next_id = function_labels(tree, work, names, at, counts, next_id)?;
+        (at, counts) = past(tree, ends, names, counts, at, row + 1)?;
     }
+    Ok(())
 }
 
-// The labels of a declaration, if it is a function whose body is no poison; `counts` is counted before it.
+// The next label's id behind a declaration, which has labels if it is a function whose body is no poison; `counts` is counted before it.
+#[tactic(auto, using(crate::proofs::Deciding::function_labels_laws))]
 fn function_labels(
     tree: &[u8],
     work: &mut [u32],
@@ -63,17 +54,15 @@ fn function_labels(
     at: usize,
     counts: Counts,
     next_id: u32,
-) -> u32
+) -> Result<u32, Refusal>
     ensures { Decides (read_decl tree.now (cursor at names (counts_of counts))) counts.statements next_id work.old result work.new }
 {
-    let body = function_body(tree, work, names, at, counts);
-    let Body::Laid(last) = body else {
-        return next_id;
+    let Some(last) = function_body(tree, work, names, at, counts)? else {
+        return Ok(next_id);
     };
     let none = Labels {
         count: 0,
         next: next_id,
     };
-    let after = visit_list(work, last, none, 63);
-    after.next
+    Ok(visit_list(work, last, none, 63).next)
 }

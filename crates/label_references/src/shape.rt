@@ -10,100 +10,85 @@ ghost use Rattle.fields.specs.Answers.{cursor, counts_of};
 ghost use Rattle.label_references.specs.Pass.{Starts, LaysBody};
 ghost use Rattle.label_references.specs.Lay.{SetsRow, Lays, LaysKind, LaysLeaf, LaysElse, LaysList, EndsAt};
 
-use fields::counts::{Counted, Counts, Passed, count, declaration_counts, statement_counts};
-use fields::field::{Identified, operator, past_identifier, read_identifier, two_places};
-use fields::number::{Read, below, number};
+use fields::counts::{Counts, count, declaration_counts, statement_counts};
+use fields::field::{operator, past_identifier, read_identifier, two_places};
+use fields::number::{below, number};
+use fields::refusal::{Reason, Refusal};
 use memory::layout::{OUTCOMES, SHAPE_INSIDE, SHAPE_KIND, SHAPE_PREVIOUS, SHAPES};
-use memory::words::{set_word, word};
+use memory::words::{next, set_word};
 use nodes::node::expression;
 use tree::declaration::parameters;
 use tree::statement::stmt;
 
 // How far the statements are laid out: the next byte, what is counted by then, and 1 + the number of the last statement laid out beside the ones before it.
 #[derive(Clone, Copy)]
-pub enum Shaped {
-    To(usize, Counts, u32),
-    Not,
+pub struct Shaped {
+    pub at: usize,
+    pub counts: Counts,
+    pub last: u32,
 }
 
-// A list of statements: 1 + the number of its last one, 0 where it is empty.
-#[derive(Clone, Copy)]
-pub enum Body {
-    Laid(u32),
-    Without,
-}
-
-// Where a function's statements begin, and what is counted by then.
-#[derive(Clone, Copy)]
-pub enum Start {
-    At(usize, Counts),
-    Without,
-}
-
-// The statements of a declaration's body; `counts` is counted before the declaration.
-pub fn function_body(tree: &[u8], work: &mut [u32], names: u32, at: usize, counts: Counts) -> Body
+// The statements of a declaration's body, if it has any: 1 + the number of the last one; `counts` is counted before the declaration.
+#[tactic(auto, using(crate::proofs::Deciding::function_body_laws))]
+pub fn function_body(
+    tree: &[u8],
+    work: &mut [u32],
+    names: u32,
+    at: usize,
+    counts: Counts,
+) -> Result<Option<u32>, Refusal>
     ensures { LaysBody (read_decl tree.now (cursor at names (counts_of counts))) counts.statements work.old result work.new }
 {
-    let start = body_start(tree, names, at, counts);
-    let Start::At(a, inside) = start else {
-        return Body::Without;
+    let Some((first, inside)) = body_start(tree, names, at, counts)? else {
+        return Ok(None);
     };
-    let list = lay_list(tree, work, names, a, inside, 63);
-    let Shaped::To(_, _, last) = list else {
-        return Body::Without;
-    };
-    Body::Laid(last)
+    let list = lay_list(tree, work, names, first, inside, 63)?;
+    Ok(Some(list.last))
 }
 
-// Where the statements of a function begin whose body is no poison.
-fn body_start(tree: &[u8], names: u32, at: usize, counts: Counts) -> Start
+// Where the statements of a function begin whose body is no poison, and what is counted by then.
+#[tactic(auto, using(crate::proofs::Starting::body_start_laws), unfolding(penne::specs::Read::decl_of, penne::specs::Read::decl_kinds))]
+fn body_start(
+    tree: &[u8],
+    names: u32,
+    at: usize,
+    counts: Counts,
+) -> Result<Option<(usize, Counts)>, Refusal>
     ensures { Starts (read_decl tree.now (cursor at names (counts_of counts))) tree.now names counts.statements result }
 {
-    let kind = below(tree, 6, at);
-    let Read::Number(k, a) = kind else {
-        return Start::Without;
-    };
-    let more = count(counts, declaration_counts(k));
-    let Counted::Are(here) = more else {
-        return Start::Without;
-    };
-    if k == 1 {
-        return inside_function(tree, names, a, here);
+    let (kind, behind) = below(tree, 6, at)?;
+    let here = count(counts, declaration_counts(kind)).ok_or(Reason::TooMany.at(at))?;
+    if kind == 1 {
+        inside_function(tree, names, behind, here)
+    } else {
+        Ok(None)
     }
-    Start::Without
 }
 
-fn inside_function(tree: &[u8], names: u32, at: usize, counts: Counts) -> Start
+#[tactic(auto, using(crate::proofs::Starting::inside_function_laws))]
+fn inside_function(
+    tree: &[u8],
+    names: u32,
+    at: usize,
+    counts: Counts,
+) -> Result<Option<(usize, Counts)>, Refusal>
     ensures { Starts (read_function 63 tree.now (cursor at names (counts_of counts))) tree.now names counts.statements result }
 {
-    let flags = below(tree, 32, at);
-    let Read::Number(_, a) = flags else {
-        return Start::Without;
-    };
-    let places = two_places(tree, a);
-    let Read::Number(_, b) = places else {
-        return Start::Without;
-    };
-    let identifier = past_identifier(tree, names, b);
-    let Read::Number(_, c) = identifier else {
-        return Start::Without;
-    };
-    let list = parameters(tree, names, counts, false, c);
-    let Passed::To(d, after) = list else {
-        return Start::Without;
-    };
-    let tag = below(tree, 2, d);
-    let Read::Number(t, e) = tag else {
-        return Start::Without;
-    };
-    if t == 0 {
-        return Start::At(e, after);
+    let (_, at) = below(tree, 32, at)?;
+    let at = two_places(tree, at)?;
+    let at = past_identifier(tree, names, at)?;
+    let (at, counts) = parameters(tree, names, counts, false, at)?;
+    let (tag, at) = below(tree, 2, at)?;
+    if tag == 0 {
+        Ok(Some((at, counts)))
+    } else {
+        Ok(None)
     }
-    Start::Without
 }
 
 // A list of statements.
 #[cycle(shape)]
+#[tactic(auto, using(crate::proofs::Laying::list_unread))]
 pub fn lay_list(
     tree: &[u8],
     work: &mut [u32],
@@ -111,32 +96,32 @@ pub fn lay_list(
     at: usize,
     counts: Counts,
     left: u32,
-) -> Shaped
+) -> Result<Shaped, Refusal>
     ensures { LaysList (listed (read_stmt left) tree.now (cursor at names (counts_of counts))) names left counts.statements work.old result work.new }
 {
-    let count = number(tree, at);
-    let Read::Number(n, a) = count else {
-        return Shaped::Not;
+    let (count, first) = number(tree, at)?;
+    let mut so_far = Shaped {
+        at: first,
+        counts,
+        last: 0,
     };
-    let mut rest = n;
-    let mut cur = a;
-    let mut so_far = counts;
-    let mut last = 0u32;
-    while rest != 0 {
-        let one = lay(tree, work, names, cur, so_far, last, left);
-        let Shaped::To(behind, more, this) = one else {
-            return Shaped::Not;
-        };
-        last = this;
-        cur = behind;
-        so_far = more;
-        rest -= 1;
+    for _ in 0..count {
+        so_far = lay(
+            tree,
+            work,
+            names,
+            so_far.at,
+            so_far.counts,
+            so_far.last,
+            left,
+        )?;
     }
-    Shaped::To(cur, so_far, last)
+    Ok(so_far)
 }
 
 // The statement at `at`, behind the one of number `previous` less 1; its own number is how many statements are counted before it.
 #[cycle(shape)]
+#[tactic(auto, using(crate::proofs::Laying::lay_laws))]
 fn lay(
     tree: &[u8],
     work: &mut [u32],
@@ -145,31 +130,26 @@ fn lay(
     counts: Counts,
     previous: u32,
     left: u32,
-) -> Shaped
+) -> Result<Shaped, Refusal>
     ensures { Lays (read_stmt left tree.now (cursor at names (counts_of counts))) names left counts.statements previous work.old result work.new }
 {
-    let kind = below(tree, 9, at);
-    let Read::Number(n, a) = kind else {
-        return Shaped::Not;
-    };
+    let (kind, inside) = below(tree, 9, at)?;
     if left == 0 {
-        return Shaped::Not;
+        return Err(Reason::TooDeep.at(at));
     }
-    let more = count(counts, statement_counts(n));
-    let Counted::Are(here) = more else {
-        return Shaped::Not;
-    };
+    let here = count(counts, statement_counts(kind)).ok_or(Reason::TooMany.at(at))?;
     let k = counts.statements;
-    match n {
-        4 => lay_goto(tree, work, names, a, here, k, previous),
-        5 => lay_label(tree, work, names, a, here, k, previous),
-        6 => lay_branches(tree, work, names, a, here, k, previous, left - 1),
-        7 => lay_block(tree, work, names, a, here, k, previous, left - 1),
+    match kind {
+        4 => lay_goto(tree, work, names, inside, here, k, previous),
+        5 => lay_label(tree, work, names, inside, here, k, previous),
+        6 => lay_branches(tree, work, names, inside, here, k, previous, left - 1),
+        7 => lay_block(tree, work, names, inside, here, k, previous, left - 1),
         _ => lay_leaf(tree, work, names, at, counts, previous, left),
     }
 }
 
 // A statement that holds no other, and is no goto and no label.
+#[tactic(auto, using(crate::proofs::Laying::leaf_unread, crate::proofs::Laying::leaf_in))]
 fn lay_leaf(
     tree: &[u8],
     work: &mut [u32],
@@ -178,19 +158,17 @@ fn lay_leaf(
     counts: Counts,
     previous: u32,
     left: u32,
-) -> Shaped
+) -> Result<Shaped, Refusal>
     ensures { LaysLeaf (read_stmt left tree.now (cursor at names (counts_of counts))) names left counts.statements previous work.old result work.new }
 {
-    let one = stmt(tree, names, counts, at, left);
-    let Passed::To(behind, after) = one else {
-        return Shaped::Not;
-    };
+    let (behind, after) = stmt(tree, names, counts, at, left)?;
     let k = counts.statements;
     set_row(work, k, 0, previous, 0, 0);
-    laid(behind, after, k)
+    Ok(laid(behind, after, k))
 }
 
 // A goto, with its name.
+#[tactic(auto, using(crate::proofs::Laying::lay_goto_laws))]
 fn lay_goto(
     tree: &[u8],
     work: &mut [u32],
@@ -199,22 +177,17 @@ fn lay_goto(
     counts: Counts,
     k: u32,
     previous: u32,
-) -> Shaped
+) -> Result<Shaped, Refusal>
     ensures { (left : ℕ) → LaysKind (read_jump goto tree.now (cursor at names (counts_of counts))) names left counts k previous work.old result work.new }
 {
-    let one = read_identifier(tree, names, at);
-    let Identified::Is(i, a) = one else {
-        return Shaped::Not;
-    };
-    let place = number(tree, a);
-    let Read::Number(_, b) = place else {
-        return Shaped::Not;
-    };
-    set_row(work, k, 4, previous, i.name, 0);
-    laid(b, counts, k)
+    let (identifier, at) = read_identifier(tree, names, at)?;
+    let (_, at) = number(tree, at)?;
+    set_row(work, k, 4, previous, identifier.name, 0);
+    Ok(laid(at, counts, k))
 }
 
 // A label, with its name and its place.
+#[tactic(auto, using(crate::proofs::Laying::lay_label_laws))]
 fn lay_label(
     tree: &[u8],
     work: &mut [u32],
@@ -223,31 +196,28 @@ fn lay_label(
     counts: Counts,
     k: u32,
     previous: u32,
-) -> Shaped
+) -> Result<Shaped, Refusal>
     ensures { (left : ℕ) → LaysKind (read_jump label tree.now (cursor at names (counts_of counts))) names left counts k previous work.old result work.new }
 {
-    let one = read_identifier(tree, names, at);
-    let Identified::Is(i, a) = one else {
-        return Shaped::Not;
-    };
-    let place = number(tree, a);
-    let Read::Number(_, b) = place else {
-        return Shaped::Not;
-    };
-    set_row(work, k, 5, previous, i.name, i.place);
-    laid(b, counts, k)
+    let (identifier, at) = read_identifier(tree, names, at)?;
+    let (_, at) = number(tree, at)?;
+    set_row(work, k, 5, previous, identifier.name, identifier.place);
+    Ok(laid(at, counts, k))
 }
 
+#[tactic(auto, using(crate::proofs::Laying::ends_in))]
 fn laid(at: usize, counts: Counts, k: u32) -> Shaped
     ensures { EndsAt at counts k result }
 {
-    if 2048 <= k {
-        return Shaped::Not;
+    Shaped {
+        at,
+        counts,
+        last: next(k),
     }
-    Shaped::To(at, counts, k + 1)
 }
 
 #[cycle(shape)]
+#[tactic(auto, using(crate::proofs::Laying::lay_branches_laws))]
 fn lay_branches(
     tree: &[u8],
     work: &mut [u32],
@@ -257,34 +227,20 @@ fn lay_branches(
     k: u32,
     previous: u32,
     left: u32,
-) -> Shaped
+) -> Result<Shaped, Refusal>
     ensures { LaysKind (read_if left (read_stmt left) tree.now (cursor at names (counts_of counts))) names left counts k previous work.old result work.new }
 {
-    let place = number(tree, at);
-    let Read::Number(_, a) = place else {
-        return Shaped::Not;
-    };
-    let op = operator(tree, a);
-    let Read::Number(_, b) = op else {
-        return Shaped::Not;
-    };
-    let first = expression(tree, names, b, left);
-    let Read::Number(_, c) = first else {
-        return Shaped::Not;
-    };
-    let second = expression(tree, names, c, left);
-    let Read::Number(_, d) = second else {
-        return Shaped::Not;
-    };
-    let then_branch = lay(tree, work, names, d, counts, 0, left);
-    let Shaped::To(e, after, _) = then_branch else {
-        return Shaped::Not;
-    };
-    lay_else(tree, work, names, e, after, k, previous, left)
+    let (_, at) = number(tree, at)?;
+    let at = operator(tree, at)?;
+    let at = expression(tree, names, at, left)?;
+    let at = expression(tree, names, at, left)?;
+    let then = lay(tree, work, names, at, counts, 0, left)?;
+    lay_else(tree, work, names, then.at, then.counts, k, previous, left)
 }
 
 // What follows the then branch of the If of number k.
 #[cycle(shape)]
+#[tactic(auto, using(crate::proofs::Laying::lay_else_laws))]
 fn lay_else(
     tree: &[u8],
     work: &mut [u32],
@@ -294,30 +250,22 @@ fn lay_else(
     k: u32,
     previous: u32,
     left: u32,
-) -> Shaped
+) -> Result<Shaped, Refusal>
     ensures { LaysElse (else_of (read_stmt left) tree.now (cursor at names (counts_of counts))) names left counts k previous work.old result work.new }
 {
-    let tag = below(tree, 2, at);
-    let Read::Number(t, a) = tag else {
-        return Shaped::Not;
-    };
-    if t == 0 {
+    let (tag, at) = below(tree, 2, at)?;
+    if tag == 0 {
         set_row(work, k, 6, previous, 0, 0);
-        return laid(a, counts, k);
+        return Ok(laid(at, counts, k));
     }
-    let place = number(tree, a);
-    let Read::Number(_, b) = place else {
-        return Shaped::Not;
-    };
-    let one = lay(tree, work, names, b, counts, 0, left);
-    let Shaped::To(behind, after, other) = one else {
-        return Shaped::Not;
-    };
-    set_row(work, k, 6, previous, other, 0);
-    laid(behind, after, k)
+    let (_, at) = number(tree, at)?;
+    let other = lay(tree, work, names, at, counts, 0, left)?;
+    set_row(work, k, 6, previous, other.last, 0);
+    Ok(laid(other.at, other.counts, k))
 }
 
 #[cycle(shape)]
+#[tactic(auto, using(crate::proofs::Laying::lay_block_laws))]
 fn lay_block(
     tree: &[u8],
     work: &mut [u32],
@@ -327,21 +275,16 @@ fn lay_block(
     k: u32,
     previous: u32,
     left: u32,
-) -> Shaped
+) -> Result<Shaped, Refusal>
     ensures { LaysKind (read_block (read_stmt left) tree.now (cursor at names (counts_of counts))) names left counts k previous work.old result work.new }
 {
-    let place = number(tree, at);
-    let Read::Number(_, a) = place else {
-        return Shaped::Not;
-    };
-    let list = lay_list(tree, work, names, a, counts, left);
-    let Shaped::To(behind, after, last) = list else {
-        return Shaped::Not;
-    };
-    set_row(work, k, 7, previous, last, 0);
-    laid(behind, after, k)
+    let (_, at) = number(tree, at)?;
+    let list = lay_list(tree, work, names, at, counts, left)?;
+    set_row(work, k, 7, previous, list.last, 0);
+    Ok(laid(list.at, list.counts, k))
 }
 
+#[tactic(auto, using(crate::proofs::Laying::row_past, crate::proofs::Laying::row_in))]
 fn set_row(work: &mut [u32], k: u32, kind: u32, previous: u32, inside: u32, word: u32)
     ensures { SetsRow k kind previous inside word work.old work.new }
 {

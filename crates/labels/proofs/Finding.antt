@@ -7,18 +7,18 @@ use native.Mathlib.Omega.{arith}
 use lib.Dec.{eqb}
 use lib.ListN.{length, get_or, set}
 use borrow.Author.Tests.{eq-eqb, ne_eqb, eqb-true, eqb-false}
+use Rattle.std.specs.Prelude as Rust
 use Rattle.penne.specs.Tree.{Spot, Ident}
 use Rattle.penne.specs.Find.{first, first_named}
 use Rattle.penne.proofs.Searching.{first_hit, first_miss}
 use Rattle.labels.specs.declared.Labels as L
-use Rattle.labels.specs.Outcomes.{goto_word}
 use Rattle.labels.specs.Table.{Stacked}
 use Rattle.scopes.specs.Labels.{Along, stop, step}
-use Rattle.labels.specs.Visit.{Finds, InScope, NameOf, Bears, Sets, Declares}
+use Rattle.labels.specs.Visit.{found_id, Finds, InScope, NameOf, Bears, Sets, Declares}
 use Rattle.labels.proofs.Along.{along_le}
 
-none_go : {w : List ℕ} {next i count : ℕ} {js : List (Ident Spot)} (name : ℕ) → Along (Stacked w next) i js count → count ≤ i → 0 ≡ goto_word (first_named name js)
-unfolding first_named first goto_word
+none_go : {w : List ℕ} {next i count : ℕ} {js : List (Ident Spot)} (name : ℕ) → Along (Stacked w next) i js count → count ≤ i → Rust.None ≡ found_id (first_named name js)
+unfolding first_named first found_id
 none_go name stop h = refl
 none_go name (step p r) h = absurd (omega (arith, along_le r))
 
@@ -28,53 +28,50 @@ head_go {w} {id = id} {j = j} p x y s m =
     let same : id ≡ j.id = s.is y ∙ p.id in
     (same, m.is (omega (arith, p.low)) (omega (arith, p.high)) ∙ ap (λ (z : ℕ). get_or w (2047 + z) 0) same ∙ p.name)
 
-hit_go : {w : List ℕ} {next i count id n name : ℕ} {js : List (Ident Spot)} → Along (Stacked w next) i js count → i < count → next ≤ 1025 → count ≤ 1024 → InScope w i id → NameOf w id n → n ≡ name → id ≡ goto_word (first_named name js)
-unfolding first_named goto_word
+hit_go : {w : List ℕ} {next i count id n name : ℕ} {js : List (Ident Spot)} → Along (Stacked w next) i js count → i < count → next ≤ 1025 → count ≤ 1024 → InScope w i id → NameOf w id n → n ≡ name → Rust.Some id ≡ found_id (first_named name js)
+unfolding first_named found_id
 hit_go stop h x y s m e = absurd (omega arith)
 hit_go {name = name} (step {x = j} {xs = js} p r) h x y s m e =
     let (same, named) = head_go p x (omega arith) s m in
-    same ∙ sym (ap goto_word (first_hit (λ (i : Ident Spot). eqb i.name name) j js (eq-eqb j.name name (sym named ∙ e))))
+    ap (λ (z : ℕ). Rust.Some z) same ∙ sym (ap found_id (first_hit (λ (i : Ident Spot). eqb i.name name) j js (eq-eqb j.name name (sym named ∙ e))))
 
-miss_go : {w : List ℕ} {next i count id n name r : ℕ} {js : List (Ident Spot)} → 13312 ≤ length w → Along (Stacked w next) i js count → i < count → next ≤ 1025 → count ≤ 1024 → InScope w i id → NameOf w id n → (n ≡ name → ⊥) → Finds w (i + 1) count name r → r ≡ goto_word (first_named name js)
+miss_go : {w : List ℕ} {next i count id n name : ℕ} {r : Rust.Option ℕ} {js : List (Ident Spot)} → 13312 ≤ length w → Along (Stacked w next) i js count → i < count → next ≤ 1025 → count ≤ 1024 → InScope w i id → NameOf w id n → (n ≡ name → ⊥) → Finds w (i + 1) count name r → r ≡ found_id (first_named name js)
 unfolding first_named
 miss_go v stop h x y s m e f = absurd (omega arith)
 miss_go {name = name} v (step {x = j} {xs = js} p r) h x y s m e f =
     let (same, named) = head_go p x (omega arith) s m in
-    f.is v r x y ∙ sym (ap goto_word (first_miss (λ (i : Ident Spot). eqb i.name name) j js (ne_eqb j.name name (λ z. e (named ∙ z)))))
+    f.is v r x y ∙ sym (ap found_id (first_miss (λ (i : Ident Spot). eqb i.name name) j js (ne_eqb j.name name (λ z. e (named ∙ z)))))
 
 module _ {w : List ℕ} {i count name : ℕ} where
-  pub finds_short : length w < 13312 → Finds w i count name 0
-  finds_short h = record { is = λ v. absurd (omega arith) }
+  pub finds_out : {r : Rust.Option ℕ} → (13312 ≤ length w → count ≤ 1024 → ⊥) → Finds w i count name r
+  finds_out h = record { is = λ v a x y. absurd (h v y) }
 
-  pub finds_many : 1024 < count → Finds w i count name 0
-  finds_many h = record { is = λ v a x y. absurd (omega arith) }
-
-  pub finds_none : count ≤ i → Finds w i count name 0
+  pub finds_none : count ≤ i → Finds w i count name Rust.None
   finds_none h = record { is = λ v a x y. none_go name a h }
 
   module _ {id n : ℕ} (h : i < count) (s : InScope w i id) (m : NameOf w id n) where
-    pub finds_hit : n ≡ name → Finds w i count name id
+    pub finds_hit : n ≡ name → Finds w i count name (Rust.Some id)
     finds_hit e = record { is = λ v a x y. hit_go a h x y s m e }
 
-    pub finds_miss : {r : ℕ} → (n ≡ name → ⊥) → Finds w (i + 1) count name r → Finds w i count name r
+    pub finds_miss : {r : Rust.Option ℕ} → (n ≡ name → ⊥) → Finds w (i + 1) count name r → Finds w i count name r
     finds_miss e f = record { is = λ v a x y. miss_go v a h x y s m e f }
 
 -- whatever is found from here on is what is found
 pub record Finding (w : List ℕ) (i count name : ℕ) : Type 0 where
-  pub on : (r : ℕ) → Finds w i count name r → Finds w 0 count name r
+  pub on : (r : Rust.Option ℕ) → Finds w i count name r → Finds w 0 count name r
 
 pub finding_start : {w : List ℕ} {count name : ℕ} → Finding w 0 count name
 finding_start = record { on = λ r f. f }
 
 module _ {w : List ℕ} {i count name : ℕ} (g : Finding w i count name) where
-  pub finding_hit : {t : Bool} → i < count → Bears w (get_or w (12288 + i) 0) name t → t ≡ true → Finds w 0 count name (get_or w (12288 + i) 0)
+  pub finding_hit : {t : Bool} → i < count → Bears w (get_or w (12288 + i) 0) name t → t ≡ true → Finds w 0 count name (Rust.Some (get_or w (12288 + i) 0))
   finding_hit h m e = g.on _ (finds_hit h (record { is = λ _. refl }) m.named (eqb-true m.own name (sym m.is ∙ e)))
 
   pub finding_more : {t : Bool} → i < count → Bears w (get_or w (12288 + i) 0) name t → t ≡ false → Finding w (i + 1) count name
   finding_more h m e = record { on = λ r f. g.on r (finds_miss {id = get_or w (12288 + i) 0} h (record { is = λ _. refl }) m.named (eqb-false m.own name (sym m.is ∙ e)) f) }
 
-  pub finding_none : count ≤ i → Finds w 0 count name 0
-  finding_none h = g.on 0 (finds_none h)
+  pub finding_none : count ≤ i → Finds w 0 count name Rust.None
+  finding_none h = g.on Rust.None (finds_none h)
 
 -- THE LEAVES
 

@@ -8,6 +8,8 @@ use Prim.Native.Nat.{ℕ, suc, ◌+◌, ◌-◌, ◌<◌, ◌≤◌}
 use native.Mathlib.Omega.{arith}
 use lib.ListN.{length, get_or, set, length-set, length-append}
 use lib.Seq.{get_or-set_same, get_or-set_other}
+use Rattle.std.specs.Prelude as Rust
+use Rattle.std.specs.Option.{unwrap_or}
 use Rattle.penne.specs.Tree.{Spot, Ident, stmt, Stm}
 use Rattle.penne.specs.Find.{first, first_named, resolved}
 use Rattle.penne.specs.Read.{to_stms}
@@ -17,7 +19,7 @@ use Rattle.labels.specs.declared.Labels as L
 use Rattle.labels.specs.Outcomes.{goto_word, label_word, outcomes, labels_in}
 use Rattle.labels.specs.Table.{Leaf, declares, assigns, calls, loops, bad, single, list, Rows, leaf_row, goto_row, label_row, if_row, else_row, block_row, no_rows, more_rows, turned, Stacked, Off}
 use Rattle.scopes.specs.Labels.{Along, stop, step, Named}
-use Rattle.labels.specs.Visit.{Held, Touches, Did, Visits, VisitsKind, VisitsList, outcomes_back, labels_back, after_back, Shows, Finds, Sets, LabelWord, Declares}
+use Rattle.labels.specs.Visit.{Held, Touches, Did, Visits, VisitsKind, VisitsList, outcomes_back, labels_back, after_back, Shows, found_id, Finds, Sets, LabelWord, Declares}
 use Rattle.labels.proofs.Along.{along_append, along_length, along_le, along_map}
 use Rattle.labels.proofs.Rowing.{rows_le, rows_high, rows_below, rows_last, SameRow, rows_same}
 
@@ -187,41 +189,46 @@ did_goto k o {w = w} g h j = record {
   held = held_touch _ _ g (touch_set k o w) (omega arith) (omega arith) h g.next;
 }
 
-goto_go : {left k k' name found : ℕ} {t : Stm Spot stmt} {l : Labels Spot} {a : L.Labels} {w w' : List ℕ} → Rows w (suc left) k (single t) k' → get_or w (6144 + k) 0 ≡ 4 → Held w a l → a.next + length (labels_in t) ≤ 1025
-    → Shows w 10240 k name → Finds w 0 a.count name found → Sets k found w w' → Did k k' (outcomes t l) (labels_in t) (labels t l).1 a w a w'
-unfolding outcomes labels_in labels
-goto_go (leaf_row x r) e g h s f p = absurd (omega (arith, r.kinds))
-goto_go {k = k} {name = name} {found} {l = l} {a = a} {w = w} {w'} (goto_row {i = i} r) e g h s f p =
-    let n : name ≡ i.name = s.is r.low (omega arith) ∙ r.insides in
-    let o : found ≡ goto_word (first_named i.name l.label_stack) = f.is g.words g.stack (omega arith) (omega (arith, g.few)) ∙ ap (λ (x : ℕ). goto_word (first_named x l.label_stack)) n in
-    subst (λ (x : ℕ). Did k (k + 1) (x ∷ []) [] l a w a w') o (subst (λ (x : List ℕ). Did k (k + 1) (found ∷ []) [] l a w a x) (sym (p.is r.low)) (did_goto k found g (omega arith) r.low))
-goto_go (label_row r) e g h s f p = absurd (omega (arith, r.kinds))
-goto_go (if_row r a) e g h s f p = absurd (omega (arith, r.kinds))
-goto_go (else_row r a b) e g h s f p = absurd (omega (arith, r.kinds))
-goto_go (block_row ts r a) e g h s f p = absurd (omega (arith, r.kinds))
+id_word : (q : Option (Ident Spot)) → unwrap_or (found_id q) 0 ≡ goto_word q
+unfolding found_id goto_word
+id_word none = refl
+id_word (some j) = refl
 
-pub visits_goto : {k name found : ℕ} {a : L.Labels} {w w' : List ℕ} (left : ℕ) → Shows w 10240 k name → Finds w 0 a.count name found → Sets k found w w' → VisitsKind 4 left k a w a w'
-visits_goto left s f p = record { visits = λ e. record { does = λ rows g h. goto_go rows e g h s f p } }
+goto_go : {left k k' name found : ℕ} {r : Rust.Option ℕ} {t : Stm Spot stmt} {l : Labels Spot} {a : L.Labels} {w w' : List ℕ} → Rows w (suc left) k (single t) k' → get_or w (6144 + k) 0 ≡ 4 → Held w a l → a.next + length (labels_in t) ≤ 1025
+    → Shows w 10240 k name → Finds w 0 a.count name r → (found ≡ unwrap_or r 0) → Sets k found w w' → Did k k' (outcomes t l) (labels_in t) (labels t l).1 a w a w'
+unfolding outcomes labels_in labels
+goto_go (leaf_row x r) e g h s f u p = absurd (omega (arith, r.kinds))
+goto_go {k = k} {name = name} {found} {l = l} {a = a} {w = w} {w'} (goto_row {i = i} r) e g h s f u p =
+    let n : name ≡ i.name = s.is r.low (omega arith) ∙ r.insides in
+    let o : found ≡ goto_word (first_named i.name l.label_stack) = u ∙ ap (λ (q : Rust.Option ℕ). unwrap_or q 0) (f.is g.words g.stack (omega arith) (omega (arith, g.few))) ∙ id_word (first_named name l.label_stack) ∙ ap (λ (x : ℕ). goto_word (first_named x l.label_stack)) n in
+    subst (λ (x : ℕ). Did k (k + 1) (x ∷ []) [] l a w a w') o (subst (λ (x : List ℕ). Did k (k + 1) (found ∷ []) [] l a w a x) (sym (p.is r.low)) (did_goto k found g (omega arith) r.low))
+goto_go (label_row r) e g h s f u p = absurd (omega (arith, r.kinds))
+goto_go (if_row r a) e g h s f u p = absurd (omega (arith, r.kinds))
+goto_go (else_row r a b) e g h s f u p = absurd (omega (arith, r.kinds))
+goto_go (block_row ts r a) e g h s f u p = absurd (omega (arith, r.kinds))
+
+pub visits_goto : {k name found : ℕ} {r : Rust.Option ℕ} {a : L.Labels} {w w' : List ℕ} (left : ℕ) → Shows w 10240 k name → Finds w 0 a.count name r → (found ≡ unwrap_or r 0) → Sets k found w w' → VisitsKind 4 left k a w a w'
+visits_goto left s f u p = record { visits = λ e. record { does = λ rows g h. goto_go rows e g h s f u p } }
 
 -- LABELS
 
--- what the search finds has an id from 1 to 1,024
+-- what the search finds has an id up to 1,024
 pub data Lows : Option (Ident Spot) → Type 0 where
   no : Lows none
-  yes : {j : Ident Spot} → 0 < j.id → j.id ≤ 1024 → Lows (some j)
+  yes : {j : Ident Spot} → j.id ≤ 1024 → Lows (some j)
 
 found_low : {w : List ℕ} {next i count : ℕ} {js : List (Ident Spot)} (name : ℕ) → Along (Stacked w next) i js count → next ≤ 1025 → Lows (first_named name js)
 unfolding first_named first
 found_low name stop h = no
 found_low name (step {x = j} {xs = js} p r) h = (elim (eqb j.name name) as (λ b. eqb j.name name ≡ b → Lows (first (λ (i : Ident Spot). eqb i.name name) (j ∷ js))) [
-  | true ↦ λ e. subst Lows (sym (first_hit (λ (i : Ident Spot). eqb i.name name) j js e)) (yes p.low (omega (arith, p.high)))
+  | true ↦ λ e. subst Lows (sym (first_hit (λ (i : Ident Spot). eqb i.name name) j js e)) (yes (omega (arith, p.high)))
   | false ↦ λ e. subst Lows (sym (first_miss (λ (i : Ident Spot). eqb i.name name) j js e)) (found_low name r h)
 ]) refl
 
-word_go : {earlier id id' o : ℕ} (q : Option (Ident Spot)) → LabelWord earlier id o → earlier ≡ goto_word q → id ≡ id' → Lows q → o ≡ label_word id' q
-unfolding goto_word label_word
+word_go : {earlier : Rust.Option ℕ} {id id' o : ℕ} (q : Option (Ident Spot)) → LabelWord earlier id o → earlier ≡ found_id q → id ≡ id' → Lows q → o ≡ label_word id' q
+unfolding found_id label_word
 word_go none u e z no = u.none e ∙ z
-word_go (some j) u e z (yes h₁ h₂) = u.some (omega arith) (omega arith) ∙ ap (λ (x : ℕ). 1024 + x) e
+word_go (some j) u e z (yes h) = u.some j.id e h
 
 -- four words are stored: the outcome, the name, the place, and the label in scope
 abbrev stored : (k o n p : ℕ) (a : L.Labels) → List ℕ → List ℕ
@@ -297,19 +304,19 @@ did_label k o {i} {l} a w g h j =
       };
     }
 
-label_go : {left k k' name place earlier o : ℕ} {t : Stm Spot stmt} {l : Labels Spot} {a b : L.Labels} {w w₁ w' : List ℕ} → Rows w (suc left) k (single t) k' → get_or w (6144 + k) 0 ≡ 5 → Held w a l → a.next + length (labels_in t) ≤ 1025
+label_go : {left k k' name place o : ℕ} {earlier : Rust.Option ℕ} {t : Stm Spot stmt} {l : Labels Spot} {a b : L.Labels} {w w₁ w' : List ℕ} → Rows w (suc left) k (single t) k' → get_or w (6144 + k) 0 ≡ 5 → Held w a l → a.next + length (labels_in t) ≤ 1025
     → Shows w 10240 k name → Shows w 0 k place → Finds w 0 a.count name earlier → LabelWord earlier a.next o → Sets k o w w₁ → Declares name place a w₁ b w' → Did k k' (outcomes t l) (labels_in t) (labels t l).1 a w b w'
 unfolding outcomes labels_in labels
 label_go (leaf_row x r) e g h s q f u p d = absurd (omega (arith, r.kinds))
 label_go (goto_row r) e g h s q f u p d = absurd (omega (arith, r.kinds))
-label_go {k = k} {name = name} {place} {earlier} {o} {l = l} {a} {b} {w} {w₁} {w'} (label_row {i = i} r) e g h s q f u p d =
+label_go {k = k} {name = name} {place} {o} {earlier} {l = l} {a} {b} {w} {w₁} {w'} (label_row {i = i} r) e g h s q f u p d =
     let room : a.next ≤ 1024 = omega arith in
     let n : name ≡ i.name = s.is r.low (omega arith) ∙ r.insides in
     let z : 0 + k ≡ k = omega arith in
     let m : place ≡ i.place.number = q.is r.low (omega arith) ∙ ap (λ (x : ℕ). get_or w x 0) z ∙ r.words in
     let c : a.count < 1024 = omega (arith, g.few) in
     let y : 0 < a.next = omega (arith, g.few) in
-    let found : earlier ≡ goto_word (first_named i.name l.label_stack) = f.is g.words g.stack (omega arith) (omega arith) ∙ ap (λ (x : ℕ). goto_word (first_named x l.label_stack)) n in
+    let found : earlier ≡ found_id (first_named i.name l.label_stack) = f.is g.words g.stack (omega arith) (omega arith) ∙ ap (λ (x : ℕ). found_id (first_named x l.label_stack)) n in
     let said : o ≡ label_word l.resolution_id (first_named i.name l.label_stack) = word_go (first_named i.name l.label_stack) u found g.next (found_low i.name g.stack (omega arith)) in
     let kept : w' ≡ stored k o i.name i.place.number a w =
     d.words c y room ∙ ap (λ (v : List ℕ). set (set (set v (2047 + a.next) name) (3071 + a.next) place) (12288 + a.count) a.next) (p.is r.low) ∙
@@ -324,7 +331,7 @@ label_go (block_row ts r a) e g h s q f u p d = absurd (omega (arith, r.kinds))
 pub label_past : {k : ℕ} {a : L.Labels} {w : List ℕ} (left : ℕ) → 2047 < k → VisitsKind 5 left k a w a w
 label_past left h = record { visits = λ e. record { does = λ rows g z. absurd (omega (arith, rows_below rows)) } }
 
-pub visits_label : {k name place earlier o : ℕ} {a b : L.Labels} {w w₁ w' : List ℕ} (left : ℕ) → Shows w 10240 k name → Shows w 0 k place → Finds w 0 a.count name earlier → LabelWord earlier a.next o → Sets k o w w₁ → Declares name place a w₁ b w' → VisitsKind 5 left k a w b w'
+pub visits_label : {k name place o : ℕ} {earlier : Rust.Option ℕ} {a b : L.Labels} {w w₁ w' : List ℕ} (left : ℕ) → Shows w 10240 k name → Shows w 0 k place → Finds w 0 a.count name earlier → LabelWord earlier a.next o → Sets k o w w₁ → Declares name place a w₁ b w' → VisitsKind 5 left k a w b w'
 visits_label left s q f u p d = record { visits = λ e. record { does = λ rows g h. label_go rows e g h s q f u p d } }
 
 -- BRANCHES
@@ -381,11 +388,11 @@ both_go {left} {k} {k'} {other} {l = l} {a} {b} {c} {w} {w₁} {w₂} (else_row 
 both_go (block_row ts r rows) e g h v s z o = absurd (omega (arith, r.kinds))
 
 module _ {left k other : ℕ} {a b : L.Labels} {w w₁ : List ℕ} (v : Visits left (k + 1) a w b w₁) (s : Shows w₁ 10240 k other) where
-  pub branches_then : other ≡ 0 → VisitsKind 6 left k a w b w₁
-  branches_then z = record { visits = λ e. record { does = λ rows g h. then_go rows e g h v s z } }
+  pub branches_then : (1 ≤ other → ⊥) → VisitsKind 6 left k a w b w₁
+  branches_then z = record { visits = λ e. record { does = λ rows g h. then_go rows e g h v s (omega arith) } }
 
-  pub branches_both : {c : L.Labels} {w₂ : List ℕ} → (other ≡ 0 → ⊥) → Visits left (other - 1) b w₁ c w₂ → VisitsKind 6 left k a w c w₂
-  branches_both z o = record { visits = λ e. record { does = λ rows g h. both_go rows e g h v s z o } }
+  pub branches_both : {m : ℕ} {c : L.Labels} {w₂ : List ℕ} → (1 ≤ other) × (m ≡ other - 1) → Visits left m b w₁ c w₂ → VisitsKind 6 left k a w c w₂
+  branches_both (z, q) o = record { visits = λ e. record { does = λ rows g h. both_go rows e g h v s (omega arith) (rw q at o) } }
 
 -- LISTS
 
@@ -473,12 +480,15 @@ pub visiting_start : {left last : ℕ} {a : L.Labels} {w : List ℕ} → Visitin
 visiting_start = record { long = refl; on = λ c w₂ v. v }
 
 module _ {left last last₁ : ℕ} {a b : L.Labels} {w w₁ : List ℕ} (g : Visiting left last a w last₁ b w₁) where
-  pub visiting_done : last₁ ≡ 0 → VisitsList left last a w b w₁
-  visiting_done z = g.on b w₁ (record { does = λ rows held h. list_none rows z held })
+  pub visiting_done : (1 ≤ last₁ → ⊥) → VisitsList left last a w b w₁
+  visiting_done z = g.on b w₁ (record { does = λ rows held h. list_none rows (omega arith) held })
 
-  module _ {previous : ℕ} {c : L.Labels} {w₂ : List ℕ} (z : last₁ ≡ 0 → ⊥) (v : Visits left (last₁ - 1) b w₁ c w₂) (s : Shows w₂ 8192 (last₁ - 1) previous) where
+  module _ {k previous : ℕ} {c : L.Labels} {w₂ : List ℕ} (z : (1 ≤ last₁) × (k ≡ last₁ - 1)) (v : Visits left k b w₁ c w₂) (s : Shows w₂ 8192 k previous) where
+    some_left : last₁ ≡ 0 → ⊥
+    some_left e = omega (arith, z.0)
+
     pub visiting_stuck : last₁ ≤ previous → VisitsList left last a w c w₂
-    visiting_stuck i = g.on c w₂ (record { does = λ rows held h. list_stuck rows z held h v s i })
+    visiting_stuck i = g.on c w₂ (record { does = λ rows held h. list_stuck rows some_left held h (rw z.1 at v) (rw z.1 at s) i })
 
     pub visiting_more : length w₂ ≡ length w₁ → Visiting left last a w previous c w₂
-    visiting_more e = record { long = e ∙ g.long; on = λ d w₃ u. g.on d w₃ (record { does = λ rows held h. list_more rows z held h v s u }) }
+    visiting_more e = record { long = e ∙ g.long; on = λ d w₃ u. g.on d w₃ (record { does = λ rows held h. list_more rows some_left held h (rw z.1 at v) (rw z.1 at s) u }) }

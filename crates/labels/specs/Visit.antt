@@ -1,10 +1,12 @@
 -- What the visit promises: where a part stands in the rows and the labels in scope are held, its outcomes are told afterwards, and the labels are held that the pass leaves in scope.
 use Rattle.std.specs.Prelude.{ℕ, suc, ◌+◌, ◌<◌, ◌≤◌, ◌≡◌, Bool, List, [], ◌∷◌, ◌++◌, eqb, length, get_or, set}
+use Rattle.std.specs.Prelude as Rust
+use Rattle.std.proofs.Math.Option.{Option, none, some}
 use Rattle.penne.specs.Tree.{Spot, Ident, stmt, Stm}
 use Rattle.penne.specs.Find.{first_named}
 use Rattle.penne.specs.Labels.{Labels, labels}
 use Rattle.labels.specs.declared.Labels as L
-use Rattle.labels.specs.Outcomes.{goto_word, outcomes, labels_in}
+use Rattle.labels.specs.Outcomes.{outcomes, labels_in}
 use Rattle.labels.specs.Table.{single, list, Rows, Told, Stacked, Off}
 use Rattle.scopes.specs.Labels.{Along, Named}
 
@@ -60,9 +62,14 @@ pub record VisitsList (left last : ℕ) (a : L.Labels) (w : List ℕ) (b : L.Lab
 pub record Shows (w : List ℕ) (from k r : ℕ) : Type 0 where
   pub is : k < 2048 → from ≤ 12288 → r ≡ get_or w (from + k) 0
 
+-- the id of what the search found
+unfoldable pub found_id : {P : Type 0} → Option (Ident P) → Rust.Option ℕ
+found_id none = Rust.None
+found_id (some j) = Rust.Some j.id
+
 -- r is the id of the first label of that name, of those in scope from the i-th on
-pub record Finds (w : List ℕ) (i count name r : ℕ) : Type 0 where
-  pub is : 13312 ≤ length w → {next : ℕ} {js : List (Ident Spot)} → Along (Stacked w next) i js count → next ≤ 1025 → count ≤ 1024 → r ≡ goto_word (first_named name js)
+pub record Finds (w : List ℕ) (i count name : ℕ) (r : Rust.Option ℕ) : Type 0 where
+  pub is : 13312 ≤ length w → {next : ℕ} {js : List (Ident Spot)} → Along (Stacked w next) i js count → next ≤ 1025 → count ≤ 1024 → r ≡ found_id (first_named name js)
 
 -- the i-th label in scope, and a label's name
 pub record InScope (w : List ℕ) (i r : ℕ) : Type 0 where
@@ -81,10 +88,10 @@ pub record Bears (w : List ℕ) (id name : ℕ) (r : Bool) : Type 0 where
 pub record Sets (k o : ℕ) (w w' : List ℕ) : Type 0 where
   pub is : k < 2048 → w' ≡ set w k o
 
--- a label's word, where `earlier` is 0 or the id of an earlier one
-pub record LabelWord (earlier id r : ℕ) : Type 0 where
-  pub none : earlier ≡ 0 → r ≡ id
-  pub some : 0 < earlier → earlier ≤ 1024 → r ≡ 1024 + earlier
+-- a label's word, where `earlier` is the id of an earlier one
+pub record LabelWord (earlier : Rust.Option ℕ) (id r : ℕ) : Type 0 where
+  pub none : earlier ≡ Rust.None → r ≡ id
+  pub some : (e : ℕ) → earlier ≡ Rust.Some e → e ≤ 1024 → r ≡ 1024 + e
 
 -- a label of that name and place is declared
 pub record Declares (name place : ℕ) (a : L.Labels) (w : List ℕ) (b : L.Labels) (w' : List ℕ) : Type 0 where

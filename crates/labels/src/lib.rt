@@ -20,20 +20,18 @@ pub struct Labels {
 
 // The list whose last statement has the number `last` less 1.
 #[cycle(labels)]
-pub fn visit_list(work: &mut [u32], last: u32, labels: Labels, left: u32) -> Labels
+pub fn visit_list(work: &mut [u32], mut last: u32, mut labels: Labels, left: u32) -> Labels
     ensures { VisitsList left last labels work.old result work.new }
 {
-    let mut l = labels;
-    let mut k = last;
-    while k != 0 {
-        l = visit(work, k - 1, l, left);
-        let previous = shown(work, SHAPES + SHAPE_PREVIOUS, k - 1);
-        if k <= previous {
-            return l;
+    while let Some(k) = last.checked_sub(1) {
+        labels = visit(work, k, labels, left);
+        let previous = shown(work, SHAPES + SHAPE_PREVIOUS, k);
+        if last <= previous {
+            return labels;
         }
-        k = previous;
+        last = previous;
     }
-    l
+    labels
 }
 
 #[cycle(labels)]
@@ -43,8 +41,7 @@ fn visit(work: &mut [u32], k: u32, labels: Labels, left: u32) -> Labels
     if left == 0 {
         return labels;
     }
-    let kind = shown(work, SHAPES + SHAPE_KIND, k);
-    match kind {
+    match shown(work, SHAPES + SHAPE_KIND, k) {
         4 => visit_goto(work, k, labels),
         5 => visit_label(work, k, labels),
         6 => visit_branches(work, k, labels, left - 1),
@@ -62,11 +59,10 @@ fn visit_branches(work: &mut [u32], k: u32, labels: Labels, left: u32) -> Labels
         return labels;
     }
     let after = visit(work, k + 1, labels, left);
-    let other = shown(work, SHAPES + SHAPE_INSIDE, k);
-    if other == 0 {
-        return after;
+    match shown(work, SHAPES + SHAPE_INSIDE, k).checked_sub(1) {
+        Some(other) => visit(work, other, after, left),
+        None => after,
     }
-    visit(work, other - 1, after, left)
 }
 
 // The labels of a block go with it, the ids go on.
@@ -77,8 +73,8 @@ fn visit_block(work: &mut [u32], k: u32, labels: Labels, left: u32) -> Labels
     let last = shown(work, SHAPES + SHAPE_INSIDE, k);
     let after = visit_list(work, last, labels, left);
     Labels {
-        count: labels.count,
         next: after.next,
+        ..labels
     }
 }
 
@@ -87,7 +83,7 @@ fn visit_goto(work: &mut [u32], k: u32, labels: Labels) -> Labels
 {
     let name = shown(work, SHAPES + SHAPE_INSIDE, k);
     let found = find_label(work, labels.count, name);
-    set_outcome(work, k, found);
+    set_outcome(work, k, found.unwrap_or(0));
     labels
 }
 
@@ -104,65 +100,48 @@ fn visit_label(work: &mut [u32], k: u32, labels: Labels) -> Labels
     declare_label(work, name, place, labels)
 }
 
-fn label_outcome(earlier: u32, id: u32) -> u32
+fn label_outcome(earlier: Option<u32>, id: u32) -> u32
     ensures { LabelWord earlier id result }
 {
-    if earlier == 0 {
-        return id;
-    }
-    if 1024 < earlier {
-        return id;
-    }
-    1024 + earlier
+    earlier.map_or(id, |earlier| earlier.saturating_add(1024))
 }
 
 // "A duplicate is poisoned where visited second, yet takes an id and stays declared."
 fn declare_label(work: &mut [u32], name: u32, place: u32, labels: Labels) -> Labels
     ensures { Declares name place labels work.old result work.new }
 {
-    let count = labels.count;
-    let id = labels.next;
-    if 1024 <= count {
+    let Labels { count, next } = labels;
+    if 1024 <= count || next == 0 || 1024 < next {
         return labels;
     }
-    if id == 0 {
-        return labels;
-    }
-    if 1024 < id {
-        return labels;
-    }
-    let row = (id - 1) as usize;
+    let row = (next - 1) as usize;
     set_word(work, SCOPES + LABEL_NAME + row, name);
     set_word(work, SCOPES + LABEL_PLACE + row, place);
-    set_word(work, LABEL_STACK + count, id);
+    set_word(work, LABEL_STACK + count, next);
     Labels {
         count: count + 1,
-        next: id + 1,
+        next: next + 1,
     }
 }
 
-// The id of the outermost label of that name, the first declared; 0 where there is none.
-fn find_label(work: &[u32], count: usize, name: u32) -> u32
+// The id of the outermost label of that name, the first declared.
+fn find_label(work: &[u32], count: usize, name: u32) -> Option<u32>
     ensures { Finds work.now 0 count name result }
 {
-    if work.len() < LABEL_STACK_END {
-        return 0;
+    if work.len() < LABEL_STACK_END || 1024 < count {
+        return None;
     }
-    if 1024 < count {
-        return 0;
-    }
-    let mut i = 0usize;
-    while i < count {
+    for i in 0..count {
         let id = work[LABEL_STACK + i];
         if named(work, id, name) {
-            return id;
+            return Some(id);
         }
-        i += 1;
     }
-    0
+    None
 }
 
 // Has the label of that id the name?
+#[tactic(auto, using(crate::proofs::Finding::bears_none, crate::proofs::Finding::bears_own))]
 fn named(work: &[u32], id: u32, name: u32) -> bool
     requires { 3072 ≤ length work.now }
     ensures { Bears work.now id name result }
@@ -173,13 +152,13 @@ fn named(work: &[u32], id: u32, name: u32) -> bool
     work[SCOPES + LABEL_NAME - 1 + id as usize] == name
 }
 
+#[tactic(auto, using(crate::proofs::Finding::sets_past, crate::proofs::Finding::sets_in))]
 fn set_outcome(work: &mut [u32], k: u32, outcome: u32)
     ensures { Sets k outcome work.old work.new }
 {
-    if 2048 <= k {
-        return;
+    if k < 2048 {
+        set_word(work, OUTCOMES + k as usize, outcome);
     }
-    set_word(work, OUTCOMES + k as usize, outcome);
 }
 
 // What is decided for the statement of number k.
@@ -193,10 +172,7 @@ pub fn outcome_of(work: &[u32], k: u32) -> u32
 pub fn shown(work: &[u32], from: usize, k: u32) -> u32
     ensures { Shows work.now from k result }
 {
-    if 2048 <= k {
-        return 0;
-    }
-    if 12288 < from {
+    if 2048 <= k || 12288 < from {
         return 0;
     }
     word(work, from + k as usize)

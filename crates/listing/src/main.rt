@@ -1,23 +1,16 @@
 // Reads a tree from standard input and lists what the scoper answers: lengths, skipped uses, depths; or the refusal.
 #![tactic(auto)]
 
-use fields::number::{Read, number};
+use fields::number::number;
 use input::read_full;
-use memory::words::word;
 use scoper::Scoped;
 use std::io;
-use tree::script::{Laid, lay_out};
+use tree::script::lay_out;
 
 fn list_skips(rt: &impl Print, list: &[u32], records: usize) -> io::Result<()> {
-    let mut i = 0usize;
-    while i < records {
-        if 1048576 <= i {
-            return Ok(());
-        }
-        let used = word(list, i * 2);
-        let declared = word(list, i * 2 + 1);
+    let (pairs, _) = list.as_chunks::<2>();
+    for &[used, declared] in pairs.iter().take(records) {
         println!(rt; "skip {used} {declared}")?;
-        i += 1;
     }
     Ok(())
 }
@@ -27,30 +20,21 @@ fn list_depth(rt: &impl Print, declaration: u32, depth: u32) -> io::Result<()> {
     match depth {
         0 => println!(rt; "depth {declaration} none"),
         1 => println!(rt; "depth {declaration} poisoned"),
-        _ => {
-            let d = depth - 2;
-            println!(rt; "depth {declaration} {d}")
-        }
+        _ => println!(rt; "depth {declaration} {}", depth - 2),
     }
 }
 
 fn list_depths(rt: &impl Print, answer: &[u8]) -> io::Result<()> {
-    let mut none = [0u32; 1];
-    let laid = lay_out(answer, &mut none);
-    let Laid::Out(l) = laid else {
+    let Ok(layout) = lay_out(answer, &mut [0]) else {
         return Ok(());
     };
-    let count = l.count;
-    let mut at = l.depths;
-    let mut k = 0u32;
-    while k < count {
-        let one = number(answer, at);
-        let Read::Number(depth, next) = one else {
+    let mut at = layout.depths;
+    for declaration in 0..layout.count {
+        let Ok((depth, next)) = number(answer, at) else {
             return Ok(());
         };
-        list_depth(rt, k, depth)?;
+        list_depth(rt, declaration, depth)?;
         at = next;
-        k += 1;
     }
     Ok(())
 }
@@ -62,23 +46,22 @@ fn list_all(
     list: &mut [u32],
     work: &mut [u32],
 ) -> io::Result<()> {
-    let scoped = scoper::analyze(tree, answer, list, work);
-    match scoped {
-        Scoped::Answer(length, records) => {
+    match scoper::analyze(tree, answer, list, work) {
+        Ok(Scoped { length, records }) => {
             println!(rt; "tree {length} skipped {records}")?;
             list_skips(rt, list, records)?;
             list_depths(rt, answer)
         }
-        Scoped::Refused(number, place) => println!(rt; "refused {number} at {place}"),
+        Err(refusal) => println!(rt; "{refusal}"),
     }
 }
 
 fn main(rt: HostRuntime) -> io::Result<()> {
     // One byte more than a tree may have, so that a longer one is seen to be too long.
-    let mut buffer = [0u8; 65536];
+    let mut buffer = [0; 65536];
     let count = read_full(&mut rt.stdin(), &mut buffer)?;
-    let mut answer = [0u8; 65535];
-    let mut list = [0u32; 16384];
-    let mut work = [0u32; 16384];
+    let mut answer = [0; 65535];
+    let mut list = [0; 16384];
+    let mut work = [0; 16384];
     list_all(&rt, &buffer[..count], &mut answer, &mut list, &mut work)
 }

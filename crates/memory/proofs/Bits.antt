@@ -13,7 +13,7 @@ use lib.Bits.{bit_or, bit_xor, differ, or_shr, or_step, xor_shr, xor_step}
 use lib.ListN.{length, get_or, set, length-set, get_or-eq_default}
 use lib.Seq.{get_or-set_same, get_or-set_other, set_out, ext_get_or}
 use borrow.Author.Tests.{lt-ltb, le-ltb, eqb-true, eqb-false, eq-eqb, ne_eqb}
-use Rattle.memory.specs.Rows.{bit, word_of, member, inside, none_below, vacant, Adds, Joins, Removes}
+use Rattle.memory.specs.Rows.{bit, word_of, member, inside, none_below, vacant, Adds, Joins, Removes, Mixes}
 
 -- A BIT OF A WORD
 
@@ -271,49 +271,60 @@ adds_is {w} {w'} {i} {j} {x} h e q = go (dec_lt (word_of i j) (length w))
 
 -- TWO ROWS, WORD BY WORD
 
--- the loop: f of both is stored in the first t words of row b
-pub record Mixing (f : ℕ → ℕ → ℕ) (a b : ℕ) (w₀ w : List ℕ) (t : ℕ) : Type 0 where
+-- the loop: the first t words of row b are what R gives of both
+pub record Mixing (R : ℕ → ℕ → ℕ → Type 0) (a b : ℕ) (w₀ w : List ℕ) (t : ℕ) : Type 0 where
   pub long : length w ≡ length w₀
   pub high : t ≤ 4
-  pub done : (q : ℕ) → q < t → b * 4 + q < length w₀ → get_or w (b * 4 + q) 0 ≡ f (get_or w₀ (b * 4 + q) 0) (get_or w₀ (a * 4 + q) 0)
+  pub done : (q : ℕ) → q < t → b * 4 + q < length w₀ → R (get_or w₀ (b * 4 + q) 0) (get_or w₀ (a * 4 + q) 0) (get_or w (b * 4 + q) 0)
   pub rest : (p : ℕ) → (b * 4 ≤ p → p < b * 4 + t → ⊥) → get_or w p 0 ≡ get_or w₀ p 0
 
-pub mixing_start : {f : ℕ → ℕ → ℕ} {a b : ℕ} {w : List ℕ} → Mixing f a b w w 0
+pub mixing_start : {R : ℕ → ℕ → ℕ → Type 0} {a b : ℕ} {w : List ℕ} → Mixing R a b w w 0
 mixing_start = record { long = refl; high = omega arith; done = λ q h. absurd (omega arith); rest = λ p h. refl }
 
-pub mixing_more : {f : ℕ → ℕ → ℕ} {a b : ℕ} {w₀ w w' : List ℕ} {t x y : ℕ} → Mixing f a b w₀ w t → t < 4
-    → y ≡ get_or w (a * 4 + t) 0 → x ≡ get_or w (b * 4 + t) 0 → w' ≡ set w (b * 4 + t) (f x y) → Mixing f a b w₀ w' (t + 1)
-mixing_more {f} {a} {b} {w₀} {w} {w'} {t} {x} {y} o h ey ex e = rw e (record {
-  long = length-set w (b * 4 + t) (f x y) ∙ o.long;
+pub mixing_more : {R : ℕ → ℕ → ℕ → Type 0} {a b : ℕ} {w₀ w w' : List ℕ} {t x y r : ℕ} → Mixing R a b w₀ w t → t < 4
+    → y ≡ get_or w (a * 4 + t) 0 → x ≡ get_or w (b * 4 + t) 0 → R x y r → w' ≡ set w (b * 4 + t) r → Mixing R a b w₀ w' (t + 1)
+mixing_more {R} {a} {b} {w₀} {w} {w'} {t} {x} {y} {r} o h ey ex g e = rw e (record {
+  long = length-set w (b * 4 + t) r ∙ o.long;
   high = omega arith;
   done = λ q l k. one_more q l k (dec_lt q t);
-  rest = λ p d. get_or-set_other w (b * 4 + t) p (f x y) 0 (λ z. d (omega arith) (omega arith)) ∙ o.rest p (λ z z'. d z (omega arith));
+  rest = λ p d. get_or-set_other w (b * 4 + t) p r 0 (λ z. d (omega arith) (omega arith)) ∙ o.rest p (λ z z'. d z (omega arith));
 })
   where
-    one_more : (q : ℕ) → q < t + 1 → b * 4 + q < length w₀ → Dec (q < t) → get_or (set w (b * 4 + t) (f x y)) (b * 4 + q) 0 ≡ f (get_or w₀ (b * 4 + q) 0) (get_or w₀ (a * 4 + q) 0)
-    one_more q l k (yes z) = get_or-set_other w (b * 4 + t) (b * 4 + q) _ 0 (omega arith) ∙ o.done q z k
-    one_more q l k (no z) =
-        let e : q ≡ t = omega arith in
-        let long = o.long in
-        ap (λ (m : ℕ). get_or (set w (b * 4 + t) (f x y)) (b * 4 + m) 0) e
-        ∙ get_or-set_same w (b * 4 + t) _ 0 (omega arith)
-        ∙ ap (λ (m : ℕ). f m y) (ex ∙ o.rest (b * 4 + t) (λ z z'. omega arith))
-        ∙ ap (f (get_or w₀ (b * 4 + t) 0)) (ey ∙ o.rest (a * 4 + t) (λ z z'. omega arith))
-        ∙ ap (λ (m : ℕ). f (get_or w₀ (b * 4 + m) 0) (get_or w₀ (a * 4 + m) 0)) (sym e)
+    R_at : {i i' j j' k k' : ℕ} → i ≡ i' → j ≡ j' → k ≡ k' → R i j k → R i' j' k'
+    R_at {i} {i'} {j} {j'} {k} {k'} p q s z = subst (λ (n : ℕ). R n j' k') p (subst (λ (n : ℕ). R i n k') q (subst (R i j) s z))
 
-module _ {f : ℕ → ℕ → ℕ} {a b : ℕ} {w₀ w : List ℕ} {t : ℕ} (o : Mixing f a b w₀ w t) (h : 4 ≤ t) where
+    one_more : (q : ℕ) → q < t + 1 → b * 4 + q < length w₀ → Dec (q < t)
+        → R (get_or w₀ (b * 4 + q) 0) (get_or w₀ (a * 4 + q) 0) (get_or (set w (b * 4 + t) r) (b * 4 + q) 0)
+    one_more q l k (yes z) = subst (λ (n : ℕ). R (get_or w₀ (b * 4 + q) 0) (get_or w₀ (a * 4 + q) 0) n) (sym (get_or-set_other w (b * 4 + t) (b * 4 + q) r 0 (omega arith))) (o.done q z k)
+    one_more q l k (no z) =
+        let e : t ≡ q = omega arith in
+        let long = o.long in
+        subst (λ (m : ℕ). R (get_or w₀ (b * 4 + m) 0) (get_or w₀ (a * 4 + m) 0) (get_or (set w (b * 4 + t) r) (b * 4 + m) 0)) e
+        (R_at (ex ∙ o.rest (b * 4 + t) (λ z z'. omega arith)) (ey ∙ o.rest (a * 4 + t) (λ z z'. omega arith)) (sym (get_or-set_same w (b * 4 + t) r 0 (omega arith))) g)
+
+pub mixing_done : {R : ℕ → ℕ → ℕ → Type 0} {a b : ℕ} {w₀ w : List ℕ} {t : ℕ} → Mixing R a b w₀ w t → 4 ≤ t → a < length w₀ → Mixes R a b w₀ w
+mixing_done o h l = let high = o.high in record { long = o.long; done = λ q k _. o.done q (omega arith); rest = λ p d. o.rest p (λ z z'. d l z (omega arith)) }
+
+pub mixes_none : {R : ℕ → ℕ → ℕ → Type 0} {a b : ℕ} {w : List ℕ} → (a < length w → length w ≤ b) → Mixes R a b w w
+mixes_none h = record { long = refl; done = λ q k l d. absurd (let z = h l in omega arith); rest = λ p d. refl }
+
+module _ {R : ℕ → ℕ → ℕ → Type 0} {f : ℕ → ℕ → ℕ} {a b : ℕ} {w₀ w : List ℕ} (is : (x y r : ℕ) → R x y r → r ≡ f x y) (o : Mixes R a b w₀ w) where
   mixed_others : (i j : ℕ) → (i ≡ b → ⊥) → member w i j ≡ member w₀ i j
   mixed_others i j d = go (dec_lt j 128)
     where
       go : Dec (j < 128) → member w i j ≡ member w₀ i j
-      go (yes k) = let z = o.high in member_same w₀ w i j (o.rest (word_of i j) (λ z z'. d (omega arith)))
+      go (yes k) = member_same w₀ w i j (o.rest (word_of i j) (λ l z z'. d (omega arith)))
       go (no k) = member_high w i j (omega arith) ∙ sym (member_high w₀ i j (omega arith))
+
+  -- a row past the end changes nothing
+  mixed_none : length w₀ ≤ a → (j : ℕ) → member w b j ≡ member w₀ b j
+  mixed_none h j = member_same w₀ w b j (o.rest (word_of b j) (λ l z z'. omega arith))
 
   -- each bit is g of both bits, where there is one
   mixed_row : (g : Bool → Bool → Bool) → ((x y k : ℕ) → eqb (bit (f x y) k) 1 ≡ g (eqb (bit x k) 1) (eqb (bit y k) 1))
-      → (j : ℕ) → j < 128 → word_of b j < length w₀ → member w b j ≡ g (member w₀ b j) (member w₀ a j)
-  mixed_row g law j k l =
-      member_is w b j k ∙ ap (λ (n : ℕ). eqb (bit n (j % 32)) 1) (o.done (j / 32) (omega arith) l) ∙ law (get_or w₀ (word_of b j) 0) (get_or w₀ (word_of a j) 0) (j % 32)
+      → (j : ℕ) → a < length w₀ → j < 128 → word_of b j < length w₀ → member w b j ≡ g (member w₀ b j) (member w₀ a j)
+  mixed_row g law j h k l =
+      member_is w b j k ∙ ap (λ (n : ℕ). eqb (bit n (j % 32)) 1) (is _ _ _ (o.done (j / 32) (omega arith) h l)) ∙ law (get_or w₀ (word_of b j) 0) (get_or w₀ (word_of a j) 0) (j % 32)
       ∙ ap (λ (x : Bool). g x (bit_in w₀ a j)) (sym (member_is w₀ b j k)) ∙ ap (g (member w₀ b j)) (sym (member_is w₀ a j k))
 
 -- the row and the bits that are there, and the others
@@ -340,49 +351,34 @@ joins_none x y z m p q r = rw (p, q, r) (sym (and-false y))
 removes_none : (x y m : Bool) → m ≡ false → x ≡ false → m ≡ x && not y
 removes_none x y m p q = rw (p, q)
 
-module _ {a b : ℕ} {w : List ℕ} where
-  -- a row past the end changes nothing
-  pub joins_past : length w ≤ a → Joins a b w w
-  joins_past h = record { row = λ j. go j; others = λ i j d. refl; long = refl }
-    where
-      or_false : (x z : Bool) → x ≡ x || (false && z)
-      or_false true z = refl
-      or_false false z = refl
+or_false : (x z : Bool) → x ≡ x || (false && z)
+or_false true z = refl
+or_false false z = refl
 
-      go : (j : ℕ) → member w b j ≡ member w b j || (member w a j && inside w b j)
-      go j = rw (member_past w a j (omega arith)) (or_false (member w b j) (inside w b j))
-
-  pub joins_out : length w ≤ b → Joins a b w w
-  joins_out h = record { row = λ j. joins_none (member w b j) (member w a j) (inside w b j) (member w b j) (member_past w b j (omega arith)) (member_past w b j (omega arith)) (inside_past w b j (omega arith)); others = λ i j d. refl; long = refl }
-
-  pub removes_past : length w ≤ a → Removes a b w w
-  removes_past h = record { row = λ j. rw (member_past w a j (omega arith)) (sym (and-true (member w b j))); others = λ i j d. refl; long = refl }
-
-  pub removes_out : length w ≤ b → Removes a b w w
-  removes_out h = record { row = λ j. removes_none (member w b j) (member w a j) (member w b j) (member_past w b j (omega arith)) (member_past w b j (omega arith)); others = λ i j d. refl; long = refl }
-
-module _ {a b : ℕ} {w₀ w : List ℕ} {t : ℕ} where
-  pub joins_done : Mixing bit_or a b w₀ w t → 4 ≤ t → Joins a b w₀ w
-  joins_done o h = record { row = λ j. go j (where_is w₀ b j); others = mixed_others o h; long = o.long }
+module _ {R : ℕ → ℕ → ℕ → Type 0} {a b : ℕ} {w₀ w : List ℕ} where
+  pub joins_is : ((x y r : ℕ) → R x y r → r ≡ bit_or x y) → Mixes R a b w₀ w → Joins a b w₀ w
+  joins_is is o = record { row = λ j. go j (dec_lt a (length w₀)) (where_is w₀ b j); others = mixed_others is o; long = o.long }
     where
       long : length w ≡ length w₀
       long = o.long
 
-      go : (j : ℕ) → Where w₀ b j → member w b j ≡ member w₀ b j || (member w₀ a j && inside w₀ b j)
-      go j (there k l) = mixed_row o h ◌||◌ has_or j k l ∙ ap (λ (x : Bool). member w₀ b j || x) (sym (ap (λ (x : Bool). member w₀ a j && x) (inside_is w₀ b j k l) ∙ and-true (member w₀ a j)))
-      go j (high k) = joins_none (member w₀ b j) (member w₀ a j) (inside w₀ b j) (member w b j) (member_high w b j k) (member_high w₀ b j k) (inside_high w₀ b j k)
-      go j (past l) = joins_none (member w₀ b j) (member w₀ a j) (inside w₀ b j) (member w b j) (member_past w b j (omega arith)) (member_past w₀ b j l) (inside_past w₀ b j l)
+      go : (j : ℕ) → Dec (a < length w₀) → Where w₀ b j → member w b j ≡ member w₀ b j || (member w₀ a j && inside w₀ b j)
+      go j (no h) p = mixed_none is o (omega arith) j ∙ rw (member_past w₀ a j (omega arith)) (or_false (member w₀ b j) (inside w₀ b j))
+      go j (yes h) (there k l) = mixed_row is o ◌||◌ has_or j h k l ∙ ap (λ (x : Bool). member w₀ b j || x) (sym (ap (λ (x : Bool). member w₀ a j && x) (inside_is w₀ b j k l) ∙ and-true (member w₀ a j)))
+      go j (yes h) (high k) = joins_none (member w₀ b j) (member w₀ a j) (inside w₀ b j) (member w b j) (member_high w b j k) (member_high w₀ b j k) (inside_high w₀ b j k)
+      go j (yes h) (past l) = joins_none (member w₀ b j) (member w₀ a j) (inside w₀ b j) (member w b j) (member_past w b j (omega arith)) (member_past w₀ b j l) (inside_past w₀ b j l)
 
-  pub removes_done : Mixing less a b w₀ w t → 4 ≤ t → Removes a b w₀ w
-  removes_done o h = record { row = λ j. go j (where_is w₀ b j); others = mixed_others o h; long = o.long }
+  pub removes_is : ((x y r : ℕ) → R x y r → r ≡ less x y) → Mixes R a b w₀ w → Removes a b w₀ w
+  removes_is is o = record { row = λ j. go j (dec_lt a (length w₀)) (where_is w₀ b j); others = mixed_others is o; long = o.long }
     where
       long : length w ≡ length w₀
       long = o.long
 
-      go : (j : ℕ) → Where w₀ b j → member w b j ≡ member w₀ b j && not (member w₀ a j)
-      go j (there k l) = mixed_row o h sub has_less j k l
-      go j (high k) = removes_none (member w₀ b j) (member w₀ a j) (member w b j) (member_high w b j k) (member_high w₀ b j k)
-      go j (past l) = removes_none (member w₀ b j) (member w₀ a j) (member w b j) (member_past w b j (omega arith)) (member_past w₀ b j l)
+      go : (j : ℕ) → Dec (a < length w₀) → Where w₀ b j → member w b j ≡ member w₀ b j && not (member w₀ a j)
+      go j (no h) p = mixed_none is o (omega arith) j ∙ rw (member_past w₀ a j (omega arith)) (sym (and-true (member w₀ b j)))
+      go j (yes h) (there k l) = mixed_row is o sub has_less j h k l
+      go j (yes h) (high k) = removes_none (member w₀ b j) (member w₀ a j) (member w b j) (member_high w b j k) (member_high w₀ b j k)
+      go j (yes h) (past l) = removes_none (member w₀ b j) (member w₀ a j) (member w b j) (member_past w b j (omega arith)) (member_past w₀ b j l)
 
 -- THE MEMBERS SAY ALL
 
@@ -414,3 +410,5 @@ words_same w v l sw sv e = ext_get_or 0 w v l (λ p h. bits_same 32 (get_or w p 
         tests_same _ _ (bit_small (get_or w p 0) k) (bit_small (get_or v p 0) k)
         (ap (λ (n : ℕ). eqb (bit (get_or w p 0) n) 1) (sym is) ∙ ap (λ (n : ℕ). eqb (bit (get_or w n 0) (j % 32)) 1) (sym at) ∙ same
         ∙ ap (λ (n : ℕ). eqb (bit (get_or v n 0) (j % 32)) 1) at ∙ ap (λ (n : ℕ). eqb (bit (get_or v p 0) n) 1) is)
+
+pub ruleset has_laws = (has_high, has_past, has_is)

@@ -1,5 +1,5 @@
 -- Sets of numbers below 128 in rows of four words. What lies past the end of the words is in no set.
-use Rattle.std.specs.Prelude.{ℕ, zero, suc, ◌+◌, ◌*◌, ◌/◌, ◌%◌, ◌^◌, ◌≡◌, List, Bool, true, ◌&&◌, ◌||◌, not, ltb, eqb, length, get_or}
+use Rattle.std.specs.Prelude.{ℕ, zero, suc, ◌+◌, ◌*◌, ◌/◌, ◌%◌, ◌^◌, ◌≡◌, ◌<◌, ◌≤◌, List, Bool, true, ◌&&◌, ◌||◌, not, ltb, eqb, length, get_or}
 
 -- bit k of x
 abbrev pub bit : (x k : ℕ) → ℕ
@@ -43,3 +43,9 @@ pub record Removes (a b : ℕ) (w w' : List ℕ) : Type 0 where
   pub row : (j : ℕ) → member w' b j ≡ member w b j && not (member w a j)
   pub others : (i j : ℕ) → (i ≡ b → ⊥) → member w' i j ≡ member w i j
   pub long : length w' ≡ length w
+
+-- where row a has words, each word of row b became what R gives of it and of row a's word, and nothing else is changed
+pub record Mixes (R : ℕ → ℕ → ℕ → Type 0) (a b : ℕ) (w w' : List ℕ) : Type 0 where
+  pub long : length w' ≡ length w
+  pub done : (q : ℕ) → q < 4 → a < length w → b * 4 + q < length w → R (get_or w (b * 4 + q) 0) (get_or w (a * 4 + q) 0) (get_or w' (b * 4 + q) 0)
+  pub rest : (p : ℕ) → (a < length w → b * 4 ≤ p → p < b * 4 + 4 → ⊥) → get_or w' p 0 ≡ get_or w p 0

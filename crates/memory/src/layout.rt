@@ -95,141 +95,64 @@ pub const FUNCTIONS_WORDS: usize = 768;
 pub fn tables_apart() -> bool
     ensures { result ≡ true }
 {
-    if SCOPES < OUTCOMES_END {
-        return false;
-    }
-    if CONTAINERS < SCOPES_END {
-        return false;
-    }
-    if FUNCTIONS < CONTAINERS_END {
-        return false;
-    }
-    if WORDS < FUNCTIONS_END {
-        return false;
-    }
-    true
+    OUTCOMES_END <= SCOPES
+        && SCOPES_END <= CONTAINERS
+        && CONTAINERS_END <= FUNCTIONS
+        && FUNCTIONS_END <= WORDS
 }
 
 // Nor do two columns of labels and locals.
 pub fn scopes_apart() -> bool
     ensures { result ≡ true }
 {
-    if LABEL_PLACE < LABEL_NAME + 1024 {
-        return false;
-    }
-    if LABEL_GOTO < LABEL_PLACE + 1024 {
-        return false;
-    }
-    if LABEL_NOTE < LABEL_GOTO + 1024 {
-        return false;
-    }
-    if LOCAL_NAME < LABEL_NOTE + 1024 {
-        return false;
-    }
-    if LOCAL_PLACE < LOCAL_NAME + 1024 {
-        return false;
-    }
-    if LOCAL_FROM < LOCAL_PLACE + 1024 {
-        return false;
-    }
-    if LOCAL_ID < LOCAL_FROM + 1024 {
-        return false;
-    }
-    if LOCAL_FATE < LOCAL_ID + 1024 {
-        return false;
-    }
-    if LOCAL_GOTO < LOCAL_FATE + 1024 {
-        return false;
-    }
-    if HEADS < LOCAL_GOTO + 1024 {
-        return false;
-    }
-    if SCOPES_WORDS < HEADS + 1024 {
-        return false;
-    }
-    if SCOPES_END < SCOPES + SCOPES_WORDS {
-        return false;
-    }
-    true
+    LABEL_NAME + 1024 <= LABEL_PLACE
+        && LABEL_PLACE + 1024 <= LABEL_GOTO
+        && LABEL_GOTO + 1024 <= LABEL_NOTE
+        && LABEL_NOTE + 1024 <= LOCAL_NAME
+        && LOCAL_NAME + 1024 <= LOCAL_PLACE
+        && LOCAL_PLACE + 1024 <= LOCAL_FROM
+        && LOCAL_FROM + 1024 <= LOCAL_ID
+        && LOCAL_ID + 1024 <= LOCAL_FATE
+        && LOCAL_FATE + 1024 <= LOCAL_GOTO
+        && LOCAL_GOTO + 1024 <= HEADS
+        && HEADS + 1024 <= SCOPES_WORDS
+        && SCOPES + SCOPES_WORDS <= SCOPES_END
 }
 
 // Nor do those of the label pass, which stand behind the labels' names and places.
 pub fn shapes_apart() -> bool
     ensures { result ≡ true }
 {
-    if SHAPES < SCOPES + LABEL_PLACE + 1024 {
-        return false;
-    }
-    if SHAPE_PREVIOUS < SHAPE_KIND + 2048 {
-        return false;
-    }
-    if SHAPE_INSIDE < SHAPE_PREVIOUS + 2048 {
-        return false;
-    }
-    if SHAPES_END < SHAPES + SHAPE_INSIDE + 2048 {
-        return false;
-    }
-    if LABEL_STACK < SHAPES_END {
-        return false;
-    }
-    if LABEL_STACK_END < LABEL_STACK + 1024 {
-        return false;
-    }
-    if SCOPES_END < LABEL_STACK_END {
-        return false;
-    }
-    true
+    SCOPES + LABEL_PLACE + 1024 <= SHAPES
+        && SHAPE_KIND + 2048 <= SHAPE_PREVIOUS
+        && SHAPE_PREVIOUS + 2048 <= SHAPE_INSIDE
+        && SHAPES + SHAPE_INSIDE + 2048 <= SHAPES_END
+        && SHAPES_END <= LABEL_STACK
+        && LABEL_STACK + 1024 <= LABEL_STACK_END
+        && LABEL_STACK_END <= SCOPES_END
 }
 
 // Nor do the columns and rows of constants and structures; a row has four words, and there is one row more than containers.
 pub fn containers_apart() -> bool
     ensures { result ≡ true }
 {
-    if CONTAINER_PLACE < CONTAINER_NAME + 128 {
-        return false;
-    }
-    if CONTAINER_ID < CONTAINER_PLACE + 128 {
-        return false;
-    }
-    if CONTAINER_KIND < CONTAINER_ID + 128 {
-        return false;
-    }
-    if CONTAINER_DEPTH < CONTAINER_KIND + 128 {
-        return false;
-    }
-    if CONTAINED < CONTAINER_DEPTH + 128 {
-        return false;
-    }
-    if CONTAINED_END < CONTAINED + 516 {
-        return false;
-    }
-    if EDGES < CONTAINED_END {
-        return false;
-    }
-    if CONTAINERS_WORDS < EDGES + 512 {
-        return false;
-    }
-    if CONTAINERS_END < CONTAINERS + CONTAINERS_WORDS {
-        return false;
-    }
-    true
+    CONTAINER_NAME + 128 <= CONTAINER_PLACE
+        && CONTAINER_PLACE + 128 <= CONTAINER_ID
+        && CONTAINER_ID + 128 <= CONTAINER_KIND
+        && CONTAINER_KIND + 128 <= CONTAINER_DEPTH
+        && CONTAINER_DEPTH + 128 <= CONTAINED
+        && CONTAINED + 516 <= CONTAINED_END
+        && CONTAINED_END <= EDGES
+        && EDGES + 512 <= CONTAINERS_WORDS
+        && CONTAINERS + CONTAINERS_WORDS <= CONTAINERS_END
 }
 
 // Nor do the columns of functions.
 pub fn functions_apart() -> bool
     ensures { result ≡ true }
 {
-    if FUNCTION_PLACE < FUNCTION_NAME + 256 {
-        return false;
-    }
-    if FUNCTION_ID < FUNCTION_PLACE + 256 {
-        return false;
-    }
-    if FUNCTIONS_WORDS < FUNCTION_ID + 256 {
-        return false;
-    }
-    if FUNCTIONS_END < FUNCTIONS + FUNCTIONS_WORDS {
-        return false;
-    }
-    true
+    FUNCTION_NAME + 256 <= FUNCTION_PLACE
+        && FUNCTION_PLACE + 256 <= FUNCTION_ID
+        && FUNCTION_ID + 256 <= FUNCTIONS_WORDS
+        && FUNCTIONS + FUNCTIONS_WORDS <= FUNCTIONS_END
 }

@@ -11,10 +11,9 @@ use lib.Seq.{drop-cons, get_or-set_same, get_or-set_other}
 use borrow.Author.Tests.{eq-eqb, ne_eqb}
 use Rattle.penne.specs.Read.{same_bytes, among_names}
 use Rattle.penne.proofs.Booleans.{true_false, or_right, or_left}
-use Rattle.fields.specs.declared.number.Read.{Read}
-use Rattle.fields.specs.declared.number.Read.TheVariants.{Number, Refused}
+use Rattle.std.specs.Prelude.{Ok}
 use Rattle.name_table.specs.Names.{names_from, hash_from, hash_of, mark_of, met_by, Marks, Marked, Knows, Noted}
-use Rattle.name_table.proofs.Names.{same_eq, refused_not}
+use Rattle.name_table.proofs.Names.{same_eq}
 
 -- A NAME'S NUMBER
 
@@ -139,8 +138,5 @@ module _ {cells : List ℕ} (name : List ℕ) {names : List (List ℕ)} (m : Mar
         marked_after : Marked after names → Marked after (names ++ (name ∷ []))
         marked_after n = record { long = n.long; is = λ y w. among_case y name names w (n.is y) (λ x. subst (λ (l : List ℕ). met_by after (hash_of l) ≡ true) (sym x) (ap (met_by after) (sym e) ∙ k.has m.long)) }
 
-pub noted_not : {count : ℕ} {s : List ℕ} {from : ℕ} {r : Read} {cells : List ℕ} {i p : ℕ} → r ≡ Refused i p → Noted count s from r cells
-noted_not e = record { marked = λ v n q. refused_not (sym e ∙ q) }
-
-pub noted_on : {count : ℕ} {s : List ℕ} {from : ℕ} {r : Read} {cells : List ℕ} {v b : ℕ} → Noted count s from r cells → r ≡ Number v b → Marked cells (names_from (count + 1) s from)
-noted_on {count} {s} {from} {cells = cells} g e = let q : suc count ≡ count + 1 = omega arith in subst (λ (n : ℕ). Marked cells (names_from n s from)) q (g.marked _ _ e)
+pub noted_on : {count : ℕ} {s : List ℕ} {from : ℕ} {cells : List ℕ} {next : ℕ} → Noted count s from (Ok next) cells → Marked cells (names_from (count + 1) s from)
+noted_on {count} g = let q : count + 1 ≡ suc count = omega arith in rw q g.marked

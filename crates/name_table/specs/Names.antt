@@ -1,10 +1,9 @@
 -- The table of names as it lies in the bytes: a name's length is one byte, since it is at most 64, and its bytes follow.
-use Rattle.std.specs.Prelude.{ℕ, zero, suc, ◌+◌, ◌*◌, ◌/◌, ◌%◌, ◌≡◌, Bool, true, ◌||◌, List, [], ◌∷◌, ◌++◌, eqb, length, get_or, take, drop}
-use Rattle.penne.specs.Reader.{Counts, Got, got, refused}
+use Rattle.std.specs.Prelude.{ℕ, zero, suc, ◌+◌, ◌*◌, ◌/◌, ◌%◌, ◌≡◌, Bool, true, ◌||◌, List, [], ◌∷◌, ◌++◌, eqb, length, get_or, take, drop, Result, Ok, Err, IfOk}
+use Rattle.penne.specs.Reader.{Counts, Got, got}
 use Rattle.penne.specs.Read.{read_names, among_names}
-use Rattle.fields.specs.Answers.{cursor}
-use Rattle.fields.specs.declared.number.Read.{Read}
-use Rattle.fields.specs.declared.number.Read.TheVariants.{Number, Refused}
+use Rattle.fields.specs.declared.refusal.Refusal.{Refusal}
+use Rattle.fields.specs.Answers.{cursor, refusal}
 
 -- n bytes from `at` on, as far as there are any
 abbrev pub part : List ℕ → (at n : ℕ) → List ℕ
@@ -25,23 +24,23 @@ names_end zero s at = at
 names_end (suc n) s at = names_end n s (behind s at)
 
 -- the table of so many names at `at`, with the next cursor, or a refusal
-unfoldable pub table_of : (n : ℕ) → List ℕ → (at : ℕ) → Counts → Read → Got (List (List ℕ))
-table_of n s at k (Number v next) = got (names_from n s at) (cursor next 0 k)
-table_of n s at k (Refused i p) = refused i p
+abbrev pub table_of : (n : ℕ) → List ℕ → (at : ℕ) → Counts → Result ℕ Refusal → Got (List (List ℕ))
+table_of n s at k (Ok next) = got (names_from n s at) (cursor next 0 k)
+table_of n s at k (Err e) = refusal e
 
 -- r is where the table of n names ends that begins at `at`, or its refusal; before it, no name is in the table
-pub record Tables (n : ℕ) (s : List ℕ) (at : ℕ) (r : Read) : Type 0 where
-  pub is : (k : Counts) → table_of n s at k r ≡ read_names n [] s (cursor at 0 k)
+pub record Tables (n : ℕ) (s : List ℕ) (at : ℕ) (r : Result ℕ Refusal) : Type 0 where
+  pub is : (k : Counts) → read_names n [] s (cursor at 0 k) ≡ table_of n s at k r
 
 -- what is left of the table behind one name more, or its refusal; `rest` names are to come
-unfoldable pub after_one : (count : ℕ) → List ℕ → (from rest : ℕ) → Counts → Read → Got (List (List ℕ))
-after_one count s from rest k (Number v next) = read_names rest (names_from (suc count) s from) s (cursor next 0 k)
-after_one count s from rest k (Refused i p) = refused i p
+abbrev pub after_one : (count : ℕ) → List ℕ → (from rest : ℕ) → Counts → Result ℕ Refusal → Got (List (List ℕ))
+after_one count s from rest k (Ok next) = read_names rest (names_from (suc count) s from) s (cursor next 0 k)
+after_one count s from rest k (Err e) = refusal e
 
 -- r is where the name at `at` ends, behind so many names from `from` on, or its refusal
-pub record OneMore (count : ℕ) (s : List ℕ) (from at : ℕ) (r : Read) : Type 0 where
-  pub is : (rest : ℕ) (k : Counts) → after_one count s from rest k r ≡ read_names (suc rest) (names_from count s from) s (cursor at 0 k)
-  pub ends : (v next : ℕ) → r ≡ Number v next → next ≡ names_end (suc count) s from
+pub record OneMore (count : ℕ) (s : List ℕ) (from at : ℕ) (r : Result ℕ Refusal) : Type 0 where
+  pub is : (rest : ℕ) (k : Counts) → read_names (suc rest) (names_from count s from) s (cursor at 0 k) ≡ after_one count s from rest k r
+  pub ends : IfOk r (λ next. next ≡ names_end (suc count) s from)
 
 -- HAS THE NAME BEEN MET?
 
@@ -78,5 +77,5 @@ pub record Knows (names : List (List ℕ)) (name : List ℕ) (r : Bool) (cells :
   pub marked : Marked cells (names ++ (name ∷ []))
 
 -- behind a name that passes, it is marked beside those before it
-pub record Noted (count : ℕ) (s : List ℕ) (from : ℕ) (r : Read) (cells : List ℕ) : Type 0 where
-  pub marked : (v next : ℕ) → r ≡ Number v next → Marked cells (names_from (suc count) s from)
+pub record Noted (count : ℕ) (s : List ℕ) (from : ℕ) (r : Result ℕ Refusal) (cells : List ℕ) : Type 0 where
+  pub marked : IfOk r (λ next. Marked cells (names_from (suc count) s from))

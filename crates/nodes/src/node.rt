@@ -7,34 +7,33 @@ ghost use Rattle.fields.specs.Answers.{Ends, Skips};
 
 use super::value_type::{carried, maybe_type, value_type};
 use fields::field::{bytes, operator, past_identifier, raw, two_places};
-use fields::number::{Read, below, number};
+use fields::number::{below, number};
 use fields::poison::{maybe_identifier, poison};
+use fields::refusal::{Reason, Refusal};
 
 #[cycle(node)]
-pub fn expression(tree: &[u8], names: u32, at: usize, left: u32) -> Read
+#[tactic(auto, using(crate::proofs::Nodes::expression_is), unfolding(fields::specs::Answers::forget))]
+pub fn expression(tree: &[u8], names: u32, at: usize, left: u32) -> Result<usize, Refusal>
     ensures { Ends (read left expr) tree.now names at result }
 {
-    let kind = below(tree, 16, at);
-    let Read::Number(k, a) = kind else {
-        return kind;
-    };
+    let (kind, next) = below(tree, 16, at)?;
     if left == 0 {
-        return Read::Refused(7, at);
+        return Err(Reason::TooDeep.at(at));
     }
-    expression_of(tree, names, a, left - 1, k)
+    expression_of(tree, names, next, left - 1, kind)
 }
 
 // What follows an expression's kind.
 #[cycle(node)]
-fn expression_of(tree: &[u8], names: u32, at: usize, left: u32, kind: u32) -> Read
+#[tactic(auto, using(crate::proofs::Nodes::kinds))]
+fn expression_of(tree: &[u8], names: u32, at: usize, left: u32, kind: u32) -> Result<usize, Refusal>
     ensures { Ends (expr_of (read left) (read_ty left false) (get_or expr_kinds kind k_bad_expr)) tree.now names at result }
 {
     match kind {
         0 => binary(tree, names, at, left),
         1 => unary(tree, names, at, left),
         2 => boolean(tree, at),
-        3 => integer(tree, names, at, left),
-        4 => integer(tree, names, at, left),
+        3 | 4 => integer(tree, names, at, left),
         5 => string(tree, at),
         6 => array_literal(tree, names, at, left),
         7 => structural(tree, names, at, left),
@@ -50,342 +49,245 @@ fn expression_of(tree: &[u8], names: u32, at: usize, left: u32, kind: u32) -> Re
 }
 
 #[cycle(node)]
-fn binary(tree: &[u8], names: u32, at: usize, left: u32) -> Read
+#[tactic(auto, using(fields::proofs::Parts::laws, crate::proofs::Nodes::binary_is), unfolding(fields::specs::Answers::forget, penne::specs::Reader::ret))]
+fn binary(tree: &[u8], names: u32, at: usize, left: u32) -> Result<usize, Refusal>
     ensures { Ends (read_binary (read left)) tree.now names at result }
 {
-    let op = operator(tree, at);
-    let Read::Number(_, a) = op else {
-        return op;
-    };
-    let first = expression(tree, names, a, left);
-    let Read::Number(_, b) = first else {
-        return first;
-    };
-    expression(tree, names, b, left)
+    let at = operator(tree, at)?;
+    let at = expression(tree, names, at, left)?;
+    expression(tree, names, at, left)
 }
 
 #[cycle(node)]
-fn unary(tree: &[u8], names: u32, at: usize, left: u32) -> Read
+#[tactic(auto, using(fields::proofs::Parts::laws, crate::proofs::Nodes::unary_is), unfolding(fields::specs::Answers::forget, penne::specs::Reader::ret))]
+fn unary(tree: &[u8], names: u32, at: usize, left: u32) -> Result<usize, Refusal>
     ensures { Ends (read_unary (read left)) tree.now names at result }
 {
-    let op = operator(tree, at);
-    let Read::Number(_, a) = op else {
-        return op;
-    };
-    expression(tree, names, a, left)
+    let at = operator(tree, at)?;
+    expression(tree, names, at, left)
 }
 
-fn boolean(tree: &[u8], at: usize) -> Read
+#[tactic(auto, using(fields::proofs::Parts::laws), unfolding(fields::specs::Answers::forget, penne::specs::Read::read_boolean, penne::specs::Read::place, penne::specs::Reader::ret))]
+fn boolean(tree: &[u8], at: usize) -> Result<usize, Refusal>
     ensures { Skips read_boolean tree.now at result }
 {
-    let value = below(tree, 2, at);
-    let Read::Number(_, a) = value else {
-        return value;
-    };
-    number(tree, a)
+    let (_, at) = below(tree, 2, at)?;
+    let (_, at) = number(tree, at)?;
+    Ok(at)
 }
 
 // A signed or a bit integer: both are read alike.
-fn integer(tree: &[u8], names: u32, at: usize, left: u32) -> Read
+#[tactic(auto, using(fields::proofs::Parts::laws), unfolding(fields::specs::Answers::forget, penne::specs::Read::read_integer, penne::specs::Read::place, penne::specs::Reader::ret))]
+fn integer(tree: &[u8], names: u32, at: usize, left: u32) -> Result<usize, Refusal>
     ensures { (Ends (read_integer signed (read_ty left false)) tree.now names at result) × (Ends (read_integer bits (read_ty left false)) tree.now names at result) }
 {
-    let value = raw(tree, at, 16);
-    let Read::Number(_, a) = value else {
-        return value;
-    };
-    let place = number(tree, a);
-    let Read::Number(_, b) = place else {
-        return place;
-    };
-    carried(tree, names, b, left)
+    let at = raw(tree, at, 16)?;
+    let (_, at) = number(tree, at)?;
+    carried(tree, names, at, left)
 }
 
-fn string(tree: &[u8], at: usize) -> Read
+#[tactic(auto, using(fields::proofs::Parts::laws), unfolding(fields::specs::Answers::forget, penne::specs::Read::read_string, penne::specs::Read::place, penne::specs::Reader::ret))]
+fn string(tree: &[u8], at: usize) -> Result<usize, Refusal>
     ensures { Skips read_string tree.now at result }
 {
-    let text = bytes(tree, at);
-    let Read::Number(_, a) = text else {
-        return text;
-    };
-    number(tree, a)
+    let at = bytes(tree, at)?;
+    let (_, at) = number(tree, at)?;
+    Ok(at)
 }
 
 #[cycle(node)]
-fn array_literal(tree: &[u8], names: u32, at: usize, left: u32) -> Read
+#[tactic(auto, using(fields::proofs::Parts::laws), unfolding(fields::specs::Answers::forget, penne::specs::Read::read_array_literal, penne::specs::Read::place, penne::specs::Reader::ret))]
+fn array_literal(tree: &[u8], names: u32, at: usize, left: u32) -> Result<usize, Refusal>
     ensures { Ends (read_array_literal (read left) (read_ty left false)) tree.now names at result }
 {
-    let place = number(tree, at);
-    let Read::Number(_, a) = place else {
-        return place;
-    };
-    let element = carried(tree, names, a, left);
-    let Read::Number(_, b) = element else {
-        return element;
-    };
-    let elements = expressions(tree, names, b, left);
-    let Read::Number(_, c) = elements else {
-        return elements;
-    };
-    number(tree, c)
+    let (_, at) = number(tree, at)?;
+    let at = carried(tree, names, at, left)?;
+    let at = expressions(tree, names, at, left)?;
+    let (_, at) = number(tree, at)?;
+    Ok(at)
 }
 
 #[cycle(node)]
-fn structural(tree: &[u8], names: u32, at: usize, left: u32) -> Read
+#[tactic(auto, using(fields::proofs::Parts::laws), unfolding(fields::specs::Answers::forget, penne::specs::Read::read_structural, penne::specs::Read::place, penne::specs::Reader::ret))]
+fn structural(tree: &[u8], names: u32, at: usize, left: u32) -> Result<usize, Refusal>
     ensures { Ends (read_structural (read left) (read_ty left false)) tree.now names at result }
 {
-    let place = number(tree, at);
-    let Read::Number(_, a) = place else {
-        return place;
-    };
-    let members = items(tree, names, a, left);
-    let Read::Number(_, b) = members else {
-        return members;
-    };
-    maybe_type(tree, names, false, b, left)
+    let (_, at) = number(tree, at)?;
+    let at = items(tree, names, at, left)?;
+    maybe_type(tree, names, false, at, left)
 }
 
 #[cycle(node)]
-fn parenthesized(tree: &[u8], names: u32, at: usize, left: u32) -> Read
+#[tactic(auto, using(fields::proofs::Parts::laws), unfolding(fields::specs::Answers::forget, penne::specs::Read::read_parenthesized, penne::specs::Read::place, penne::specs::Reader::ret))]
+fn parenthesized(tree: &[u8], names: u32, at: usize, left: u32) -> Result<usize, Refusal>
     ensures { Ends (read_parenthesized (read left)) tree.now names at result }
 {
-    let place = number(tree, at);
-    let Read::Number(_, a) = place else {
-        return place;
-    };
-    expression(tree, names, a, left)
+    let (_, at) = number(tree, at)?;
+    expression(tree, names, at, left)
 }
 
 #[cycle(node)]
-fn deref(tree: &[u8], names: u32, at: usize, left: u32) -> Read
+#[tactic(auto, using(fields::proofs::Parts::laws), unfolding(fields::specs::Answers::forget, penne::specs::Read::read_deref, penne::specs::Reader::ret))]
+fn deref(tree: &[u8], names: u32, at: usize, left: u32) -> Result<usize, Refusal>
     ensures { Ends (read_deref (read left) (read_ty left false)) tree.now names at result }
 {
-    let typed = carried(tree, names, at, left);
-    let Read::Number(_, a) = typed else {
-        return typed;
-    };
-    reference(tree, names, a, left)
+    let at = carried(tree, names, at, left)?;
+    reference(tree, names, at, left)
 }
 
 #[cycle(node)]
-fn bit_cast(tree: &[u8], names: u32, at: usize, left: u32) -> Read
+#[tactic(auto, using(fields::proofs::Parts::laws, crate::proofs::Nodes::bit_cast_is), unfolding(fields::specs::Answers::forget, penne::specs::Reader::ret))]
+fn bit_cast(tree: &[u8], names: u32, at: usize, left: u32) -> Result<usize, Refusal>
     ensures { Ends (read_bit_cast (read left) (read_ty left false)) tree.now names at result }
 {
-    let places = two_places(tree, at);
-    let Read::Number(_, a) = places else {
-        return places;
-    };
-    let typed = carried(tree, names, a, left);
-    let Read::Number(_, b) = typed else {
-        return typed;
-    };
-    expression(tree, names, b, left)
+    let at = two_places(tree, at)?;
+    let at = carried(tree, names, at, left)?;
+    expression(tree, names, at, left)
 }
 
 #[cycle(node)]
-fn type_cast(tree: &[u8], names: u32, at: usize, left: u32) -> Read
+#[tactic(auto, using(fields::proofs::Parts::laws, crate::proofs::Nodes::type_cast_is), unfolding(fields::specs::Answers::forget, penne::specs::Reader::ret))]
+fn type_cast(tree: &[u8], names: u32, at: usize, left: u32) -> Result<usize, Refusal>
     ensures { Ends (read_type_cast (read left) (read_ty left false)) tree.now names at result }
 {
-    let places = two_places(tree, at);
-    let Read::Number(_, a) = places else {
-        return places;
-    };
-    let typed = value_type(tree, names, false, a, left);
-    let Read::Number(_, b) = typed else {
-        return typed;
-    };
-    expression(tree, names, b, left)
+    let at = two_places(tree, at)?;
+    let at = value_type(tree, names, false, at, left)?;
+    expression(tree, names, at, left)
 }
 
 #[cycle(node)]
-fn length_of_array(tree: &[u8], names: u32, at: usize, left: u32) -> Read
+#[tactic(auto, using(fields::proofs::Parts::laws), unfolding(fields::specs::Answers::forget, penne::specs::Read::read_length_of_array, penne::specs::Read::place, penne::specs::Reader::ret))]
+fn length_of_array(tree: &[u8], names: u32, at: usize, left: u32) -> Result<usize, Refusal>
     ensures { Ends (read_length_of_array (read left)) tree.now names at result }
 {
-    let place = number(tree, at);
-    let Read::Number(_, a) = place else {
-        return place;
-    };
-    reference(tree, names, a, left)
+    let (_, at) = number(tree, at)?;
+    reference(tree, names, at, left)
 }
 
-fn size_of(tree: &[u8], names: u32, at: usize, left: u32) -> Read
+#[tactic(auto, using(fields::proofs::Parts::laws), unfolding(fields::specs::Answers::forget, penne::specs::Read::read_size_of, penne::specs::Read::place, penne::specs::Reader::ret))]
+fn size_of(tree: &[u8], names: u32, at: usize, left: u32) -> Result<usize, Refusal>
     ensures { Ends (read_size_of (read_ty left false)) tree.now names at result }
 {
-    let place = number(tree, at);
-    let Read::Number(_, a) = place else {
-        return place;
-    };
-    value_type(tree, names, false, a, left)
+    let (_, at) = number(tree, at)?;
+    value_type(tree, names, false, at, left)
 }
 
 #[cycle(node)]
-fn function_call(tree: &[u8], names: u32, at: usize, left: u32) -> Read
+#[tactic(auto, using(fields::proofs::Parts::laws), unfolding(fields::specs::Answers::forget, penne::specs::Read::read_function_call, penne::specs::Reader::ret))]
+fn function_call(tree: &[u8], names: u32, at: usize, left: u32) -> Result<usize, Refusal>
     ensures { Ends (read_function_call (read left) (read_ty left false)) tree.now names at result }
 {
-    let identifier = past_identifier(tree, names, at);
-    let Read::Number(_, a) = identifier else {
-        return identifier;
-    };
-    let builtin = number(tree, a);
-    let Read::Number(_, b) = builtin else {
-        return builtin;
-    };
-    let typed = carried(tree, names, b, left);
-    let Read::Number(_, c) = typed else {
-        return typed;
-    };
-    expressions(tree, names, c, left)
+    let at = past_identifier(tree, names, at)?;
+    let (_, at) = number(tree, at)?;
+    let at = carried(tree, names, at, left)?;
+    expressions(tree, names, at, left)
 }
 
 // A list of expressions.
 #[cycle(node)]
-pub fn expressions(tree: &[u8], names: u32, at: usize, left: u32) -> Read
+#[tactic(auto, using(fields::proofs::Lists::rests))]
+pub fn expressions(tree: &[u8], names: u32, at: usize, left: u32) -> Result<usize, Refusal>
     ensures { Ends (listed (read left expr)) tree.now names at result }
 {
-    let count = number(tree, at);
-    let Read::Number(n, a) = count else {
-        return count;
-    };
-    let mut rest = n;
-    let mut cur = a;
-    while rest != 0 {
-        let one = expression(tree, names, cur, left);
-        let Read::Number(_, next) = one else {
-            return one;
-        };
-        cur = next;
-        rest -= 1;
+    let (count, mut at) = number(tree, at)?;
+    for _ in 0..count {
+        at = expression(tree, names, at, left)?;
     }
-    Read::Number(0, cur)
+    Ok(at)
 }
 
 // The list of a structural literal's members.
 #[cycle(node)]
-fn items(tree: &[u8], names: u32, at: usize, left: u32) -> Read
+#[tactic(auto, using(fields::proofs::Lists::rests))]
+fn items(tree: &[u8], names: u32, at: usize, left: u32) -> Result<usize, Refusal>
     ensures { Ends (listed (item_of (read left))) tree.now names at result }
 {
-    let count = number(tree, at);
-    let Read::Number(n, a) = count else {
-        return count;
-    };
-    let mut rest = n;
-    let mut cur = a;
-    while rest != 0 {
-        let one = item(tree, names, cur, left);
-        let Read::Number(_, next) = one else {
-            return one;
-        };
-        cur = next;
-        rest -= 1;
+    let (count, mut at) = number(tree, at)?;
+    for _ in 0..count {
+        at = item(tree, names, at, left)?;
     }
-    Read::Number(0, cur)
+    Ok(at)
 }
 
 #[cycle(node)]
-fn item(tree: &[u8], names: u32, at: usize, left: u32) -> Read
+#[tactic(auto, using(fields::proofs::Parts::laws), unfolding(fields::specs::Answers::forget, penne::specs::Read::item_of, penne::specs::Reader::ret))]
+fn item(tree: &[u8], names: u32, at: usize, left: u32) -> Result<usize, Refusal>
     ensures { Ends (item_of (read left)) tree.now names at result }
 {
-    let identifier = maybe_identifier(tree, names, at);
-    let Read::Number(_, a) = identifier else {
-        return identifier;
-    };
-    let offset = number(tree, a);
-    let Read::Number(_, b) = offset else {
-        return offset;
-    };
-    expression(tree, names, b, left)
+    let at = maybe_identifier(tree, names, at)?;
+    let (_, at) = number(tree, at)?;
+    expression(tree, names, at, left)
 }
 
 #[cycle(node)]
-pub fn reference(tree: &[u8], names: u32, at: usize, left: u32) -> Read
+#[tactic(auto, using(fields::proofs::Parts::laws, crate::proofs::Nodes::reference_is, crate::proofs::Nodes::rest_is), unfolding(fields::specs::Answers::forget, penne::specs::Reader::ret))]
+pub fn reference(tree: &[u8], names: u32, at: usize, left: u32) -> Result<usize, Refusal>
     ensures { Ends (read left ref) tree.now names at result }
 {
-    let depth = below(tree, 256, at);
-    let Read::Number(_, a) = depth else {
-        return depth;
-    };
+    let (_, next) = below(tree, 256, at)?;
     if left == 0 {
-        return Read::Refused(7, at);
+        return Err(Reason::TooDeep.at(at));
     }
-    let places = two_places(tree, a);
-    let Read::Number(_, b) = places else {
-        return places;
-    };
-    let base = maybe_identifier(tree, names, b);
-    let Read::Number(_, c) = base else {
-        return base;
-    };
-    steps(tree, names, c, left - 1)
+    let at = two_places(tree, next)?;
+    let at = maybe_identifier(tree, names, at)?;
+    steps(tree, names, at, left - 1)
 }
 
 #[cycle(node)]
-fn steps(tree: &[u8], names: u32, at: usize, left: u32) -> Read
+#[tactic(auto, using(fields::proofs::Lists::rests))]
+fn steps(tree: &[u8], names: u32, at: usize, left: u32) -> Result<usize, Refusal>
     ensures { Ends (listed (read left step)) tree.now names at result }
 {
-    let count = number(tree, at);
-    let Read::Number(n, a) = count else {
-        return count;
-    };
-    let mut rest = n;
-    let mut cur = a;
-    while rest != 0 {
-        let one = step(tree, names, cur, left);
-        let Read::Number(_, next) = one else {
-            return one;
-        };
-        cur = next;
-        rest -= 1;
+    let (count, mut at) = number(tree, at)?;
+    for _ in 0..count {
+        at = step(tree, names, at, left)?;
     }
-    Read::Number(0, cur)
+    Ok(at)
 }
 
 #[cycle(node)]
-fn step(tree: &[u8], names: u32, at: usize, left: u32) -> Read
+#[tactic(auto, using(crate::proofs::Nodes::step_is, crate::proofs::Nodes::element_is, crate::proofs::Nodes::member_is), unfolding(fields::specs::Answers::forget))]
+fn step(tree: &[u8], names: u32, at: usize, left: u32) -> Result<usize, Refusal>
     ensures { Ends (read left step) tree.now names at result }
 {
-    let kind = below(tree, 2, at);
-    let Read::Number(k, a) = kind else {
-        return kind;
-    };
+    let (kind, next) = below(tree, 2, at)?;
     if left == 0 {
-        return Read::Refused(7, at);
+        return Err(Reason::TooDeep.at(at));
     }
-    if k == 0 {
-        return element(tree, names, a, left - 1);
+    if kind == 0 {
+        element(tree, names, next, left - 1)
+    } else {
+        member(tree, names, next)
     }
-    member(tree, names, a)
 }
 
 #[cycle(node)]
-fn element(tree: &[u8], names: u32, at: usize, left: u32) -> Read
+#[tactic(auto, using(fields::proofs::Parts::laws), unfolding(fields::specs::Answers::forget, penne::specs::Read::step_of, penne::specs::Reader::ret))]
+fn element(tree: &[u8], names: u32, at: usize, left: u32) -> Result<usize, Refusal>
     ensures { Ends (step_of (read left) 0) tree.now names at result }
 {
-    let endless = below(tree, 3, at);
-    let Read::Number(_, a) = endless else {
-        return endless;
-    };
-    expression(tree, names, a, left)
+    let (_, at) = below(tree, 3, at)?;
+    expression(tree, names, at, left)
 }
 
 // The expressions that a member step does not have are left aside.
-fn member(tree: &[u8], names: u32, at: usize) -> Read
+#[tactic(auto, using(fields::proofs::Parts::laws), unfolding(fields::specs::Answers::forget, penne::specs::Read::step_of, penne::specs::Reader::ret))]
+fn member(tree: &[u8], names: u32, at: usize) -> Result<usize, Refusal>
     ensures { Ends (step_of (read 0) 1) tree.now names at result }
 {
-    let identifier = past_identifier(tree, names, at);
-    let Read::Number(_, a) = identifier else {
-        return identifier;
-    };
-    number(tree, a)
+    let at = past_identifier(tree, names, at)?;
+    let (_, at) = number(tree, at)?;
+    Ok(at)
 }
 
-pub fn option_expression(tree: &[u8], names: u32, at: usize, left: u32) -> Read
+#[tactic(auto, using(fields::proofs::Parts::option_is))]
+pub fn option_expression(tree: &[u8], names: u32, at: usize, left: u32) -> Result<usize, Refusal>
     ensures { Ends (option (read left expr)) tree.now names at result }
 {
-    let tag = below(tree, 2, at);
-    let Read::Number(t, a) = tag else {
-        return tag;
-    };
-    if t == 0 {
-        return Read::Number(0, a);
+    let (tag, at) = below(tree, 2, at)?;
+    if tag == 0 {
+        Ok(at)
+    } else {
+        expression(tree, names, at, left)
     }
-    expression(tree, names, a, left)
 }

@@ -13,18 +13,14 @@ use Rattle.penne.specs.Tree.{Spot, Decl, Tree, constant, function, function_head
 use Rattle.penne.specs.Read.{answered, decode}
 use Rattle.penne.specs.Scoper.{Asked, told, untold, ask_decl, ask_tree, ask, depth_or, get_container_depth, is_container}
 use Rattle.penne.proofs.Leading.{never, same_value, same_cur}
-use Rattle.fields.specs.declared.number.Read.{Read}
-use Rattle.fields.specs.declared.number.Read.TheVariants.{Number, Refused}
+use Rattle.std.specs.Prelude.{Result, Ok, Err, IsOkAnd}
+use Rattle.fields.specs.declared.refusal.Reason.TheVariants.{NoSuchDeclaration}
+use Rattle.fields.specs.declared.refusal.Refusal.{Refusal}
 use Rattle.tree.specs.declared.script.Layout.{Layout}
-use Rattle.tree.specs.declared.script.Laid.{Laid}
-use Rattle.tree.specs.declared.script.Laid.TheVariants as L
-use Rattle.fields.specs.Answers.{cursor, number_of, Gives}
+use Rattle.fields.specs.Answers.{cursor, Gives}
 use Rattle.tree.specs.Script.{refusal_of, refusal, Decoded, AnsweredLayout}
 use Rattle.fields.proofs.Back.{bind_case, many_length}
-use Rattle.readers.specs.declared.Depth.{Depth}
-use Rattle.readers.specs.declared.Depth.TheVariants as D
-use Rattle.readers.specs.declared.Container.TheVariants as C
-use Rattle.readers.specs.Asking.{depth_asked, container_asked, unasked_by, NthDepth}
+use Rattle.readers.specs.Asking.{depth_asked, container_asked, NthDepth}
 
 -- THE DEPTH BEHIND n OTHERS
 
@@ -54,47 +50,39 @@ each_case : {X : Type 0} (d : Decl Spot) (ds : List (Decl Spot)) (s : List ℕ) 
 unfolding each ret
 each_case d ds s c e next = bind_case (answered d) _ s c e λ h c₁ e₁ e₂. bind_case (each answered ds) _ s c₁ e₂ λ tail c₂ e₃ e₄. next h c₁ tail (answered_num d s c e₁) (e₃ ∙ ap (got tail) (same_cur e₄)) (sym (same_value e₄))
 
+-- so many others are left from `cur` on
 pub record Skipping (s : List ℕ) (at n rest cur : ℕ) : Type 0 where
-  pub on : (r : ℕ) → NthDepth s cur rest r → NthDepth s at n r
+  pub on : (r : Result ℕ Refusal) → NthDepth s cur rest r → NthDepth s at n r
 
 pub skipping_start : {s : List ℕ} {at n : ℕ} → Skipping s at n n at
 skipping_start = record { on = λ r h. h }
 
-module _ {s : List ℕ} {cur : ℕ} {m : Read} (g : Gives num s cur m) where
-  number_at : (names : ℕ) (k : Counts) {v b : ℕ} → m ≡ Number v b → num s (cursor cur names k) ≡ got v (cursor b names k)
-  unfolding number_of
-  number_at names k e = sym (g.is names k) ∙ ap (number_of names k) e
-
-  number_no : (names : ℕ) (k : Counts) {i p : ℕ} → m ≡ Refused i p → num s (cursor cur names k) ≡ refused i p
-  unfolding number_of
-  number_no names k e = sym (g.is names k) ∙ ap (number_of names k) e
-
+module _ {s : List ℕ} {cur : ℕ} where
   -- a refused number: there are no such depths
-  unread_go : {n r i p : ℕ} → m ≡ Refused i p → (names : ℕ) (k : Counts) (ds : List (Decl Spot)) (hs : List ℕ) (c : Cur) → each answered ds s (cursor cur names k) ≡ got hs c → n < length ds → r ≡ get_or hs n 0
-  unread_go e names k [] hs c h i = absurd (not-suc-le-zero i)
-  unread_go e names k (d ∷ ds) hs c h i = each_case d ds s _ h λ a c₁ tail e₁ e₂ z. never (sym (number_no names k e) ∙ e₁)
+  unread_go : {n : ℕ} {e : Refusal} → Gives num s cur (Err e) → (names : ℕ) (k : Counts) (ds : List (Decl Spot)) (hs : List ℕ) (c : Cur) → each answered ds s (cursor cur names k) ≡ got hs c → n < length ds → ⊥
+  unread_go g names k [] hs c h i = absurd (not-suc-le-zero i)
+  unread_go g names k (d ∷ ds) hs c h i = each_case d ds s _ h λ a c₁ tail e₁ e₂ z. never (sym (g.is names k) ∙ e₁)
 
-  pub unread : {n r i p : ℕ} → m ≡ Refused i p → NthDepth s cur n r
-  unread e = record { is = unread_go e }
+  last_go : {v b : ℕ} → Gives num s cur (Ok (v, b)) → (names : ℕ) (k : Counts) (ds : List (Decl Spot)) (hs : List ℕ) (c : Cur) → each answered ds s (cursor cur names k) ≡ got hs c → 0 < length ds → v ≡ get_or hs 0 0
+  last_go g names k [] hs c h i = absurd (not-suc-le-zero i)
+  last_go g names k (d ∷ ds) hs c h i = each_case d ds s _ h λ a c₁ tail e₁ e₂ z. same_value (sym (g.is names k) ∙ e₁) ∙ ap (λ (l : List ℕ). get_or l 0 0) (sym z)
 
-  last_go : {v b : ℕ} → m ≡ Number v b → (names : ℕ) (k : Counts) (ds : List (Decl Spot)) (hs : List ℕ) (c : Cur) → each answered ds s (cursor cur names k) ≡ got hs c → 0 < length ds → v ≡ get_or hs 0 0
-  last_go e names k [] hs c h i = absurd (not-suc-le-zero i)
-  last_go e names k (d ∷ ds) hs c h i = each_case d ds s _ h λ a c₁ tail e₁ e₂ z. same_value (sym (number_at names k e) ∙ e₁) ∙ ap (λ (l : List ℕ). get_or l 0 0) (sym z)
+  more_go : {rest v b : ℕ} {r : Result ℕ Refusal} → Gives num s cur (Ok (v, b)) → NthDepth s b rest r → (names : ℕ) (k : Counts) (ds : List (Decl Spot)) (hs : List ℕ) (c : Cur) → each answered ds s (cursor cur names k) ≡ got hs c → suc rest < length ds → IsOkAnd r (λ h. h ≡ get_or hs (suc rest) 0)
+  more_go g o names k [] hs c h i = absurd (not-suc-le-zero i)
+  more_go {rest} {r = r} g o names k (d ∷ ds) hs c h i = each_case d ds s _ h λ a c₁ tail e₁ e₂ z.
+      subst (λ (l : List ℕ). IsOkAnd r (λ h. h ≡ get_or l (suc rest) 0)) (sym z) (o.is names k ds tail c (subst (λ (x : Cur). each answered ds s x ≡ got tail c) (sym (same_cur (sym (g.is names k) ∙ e₁))) e₂) (le_of_suc-le-suc i))
 
-  pub nth_last : {n v b : ℕ} → n ≡ 0 → m ≡ Number v b → NthDepth s cur n v
-  nth_last {v = v} z e = subst (λ (j : ℕ). NthDepth s cur j v) (sym z) (record { is = last_go e })
+  module _ {at n rest : ℕ} (p : Skipping s at n rest cur) where
+    pub skipping_unread : {e : Refusal} → Gives num s cur (Err e) → NthDepth s at n (Err e)
+    skipping_unread g = p.on _ (record { is = unread_go g })
 
-  more_go : {rest r v b : ℕ} → m ≡ Number v b → NthDepth s b rest r → (names : ℕ) (k : Counts) (ds : List (Decl Spot)) (hs : List ℕ) (c : Cur) → each answered ds s (cursor cur names k) ≡ got hs c → suc rest < length ds → r ≡ get_or hs (suc rest) 0
-  more_go e o names k [] hs c h i = absurd (not-suc-le-zero i)
-  more_go {rest} {r} e o names k (d ∷ ds) hs c h i = each_case d ds s _ h λ a c₁ tail e₁ e₂ z.
-      o.is names k ds tail c (subst (λ (x : Cur). each answered ds s x ≡ got tail c) (sym (same_cur (sym (number_at names k e) ∙ e₁))) e₂) (le_of_suc-le-suc i) ∙ ap (λ (l : List ℕ). get_or l (suc rest) 0) (sym z)
+    pub skipping_last : {v b : ℕ} → rest ≡ 0 → Gives num s cur (Ok (v, b)) → NthDepth s at n (Ok v)
+    skipping_last {v} z g = p.on _ (subst (λ (j : ℕ). NthDepth s cur j (Ok v)) (sym z) (record { is = last_go g }))
 
-  one_more : {r v b : ℕ} (rest : ℕ) → (rest ≡ 0 → ⊥) → m ≡ Number v b → NthDepth s b (rest - 1) r → NthDepth s cur rest r
-  one_more zero z e o = absurd (z refl)
-  one_more {r} {b = b} (suc rest) z e o = let q : suc rest - 1 ≡ rest = omega arith in record { is = more_go e (subst (λ (j : ℕ). NthDepth s b j r) q o) }
+    pub skipping_more : {rest' v b : ℕ} → rest ≡ suc rest' → Gives num s cur (Ok (v, b)) → Skipping s at n rest' b
+    skipping_more z g = record { on = λ r o. p.on r (subst (λ (j : ℕ). NthDepth s cur j r) (sym z) (record { is = more_go g o })) }
 
-  pub skipping_more : {at n rest v b : ℕ} → Skipping s at n rest cur → (rest ≡ 0 → ⊥) → m ≡ Number v b → Skipping s at n (rest - 1) b
-  skipping_more {rest = rest} p z e = record { on = λ r o. p.on r (one_more rest z e o) }
+pub ruleset skippings = (skipping_start, skipping_unread, skipping_last, skipping_more)
 
 -- A DEPTH'S NUMBER
 
@@ -146,19 +134,28 @@ elem_case (x ∷ xs) zero h next = next x refl
 elem_case (x ∷ xs) (suc k) h next = elem_case xs k (le_of_suc-le-suc h) next
 
 module _ {s : List ℕ} (k max : ℕ) where
-  pub depth_refused : {x : Laid} {y : Depth} {i p : ℕ} → AnsweredLayout s x → x ≡ L.Refused i p → y ≡ unasked_by x → depth_asked y ≡ get_container_depth s k max
-  unfolding depth_asked get_container_depth
-  depth_refused {i = i} {p} g e z = ap depth_asked (z ∙ ap unasked_by e) ∙ sym (asks_refused _ s k (g.not i p e))
+  pub depth_refused : {e : Refusal} → AnsweredLayout s (Err e) → depth_asked (Err e) ≡ get_container_depth s k max
+  unfolding get_container_depth
+  depth_refused g = sym (asks_refused _ s k g.not)
 
-  module _ {x : Laid} {l : Layout} (g : AnsweredLayout s x) (e : x ≡ L.Out l) where
-    pub depth_past : l.count ≤ k → depth_asked (D.Refused 13 0) ≡ get_container_depth s k max
-    unfolding depth_asked get_container_depth ask_decl
-    depth_past h = sym (asks_decoded _ k (g.out l e) ∙ ap (ask_decl _) (elem_past (g.out l e).laid.decls k (omega (arith, long (g.out l e)))))
+  module _ {l : Layout} (g : AnsweredLayout s (Ok l)) where
+    pub depth_past : l.count ≤ k → depth_asked (Err (record { reason = NoSuchDeclaration; place = 0 })) ≡ get_container_depth s k max
+    unfolding get_container_depth ask_decl
+    depth_past h = sym (asks_decoded _ k g.out ∙ ap (ask_decl _) (elem_past g.out.laid.decls k (omega (arith, long g.out))))
 
-    pub depth_is : {n r : ℕ} → k < l.count → NthDepth s l.depths k n → r ≡ depth_or max n → depth_asked (D.Is r) ≡ get_container_depth s k max
-    unfolding depth_asked get_container_depth ask_decl
-    depth_is {n} {r} h o z = elem_case (g.out l e).laid.decls k (omega (arith, long (g.out l e))) λ a w.
-        ap told (z ∙ ap (depth_or max) (o.is l.names (g.out l e).laid.counts (g.out l e).laid.decls (g.out l e).depths (g.out l e).end (g.out l e).read (omega (arith, long (g.out l e))))) ∙ sym (asks_decoded _ k (g.out l e) ∙ ap (ask_decl _) w)
+    module _ (h : k < l.count) where
+      the_depth : {r : Result ℕ Refusal} → NthDepth s l.depths k r → IsOkAnd r (λ n. n ≡ get_or g.out.depths k 0)
+      the_depth o = o.is l.names g.out.laid.counts g.out.laid.decls g.out.depths g.out.end g.out.read (omega (arith, h, long g.out))
+
+      pub depth_unread : {e : Refusal} → NthDepth s l.depths k (Err e) → depth_asked (Err e) ≡ get_container_depth s k max
+      depth_unread o = absurd (the_depth o)
+
+      pub depth_is : {n r : ℕ} → NthDepth s l.depths k (Ok n) → r ≡ depth_or max n → depth_asked (Ok r) ≡ get_container_depth s k max
+      unfolding get_container_depth ask_decl
+      depth_is o z = elem_case g.out.laid.decls k (omega (arith, h, long g.out)) λ a w.
+          ap told (z ∙ ap (depth_or max) (the_depth o)) ∙ sym (asks_decoded _ k g.out ∙ ap (ask_decl _) w)
+
+pub ruleset depths = (depth_refused, depth_past, depth_unread, depth_is)
 
 -- whether the depth is below the largest maximum
 below_max : Asked ℕ → Asked Bool
@@ -182,15 +179,15 @@ ask_map f s k = (elim (ltb 65535 (length s)) as (λ t. ltb 65535 (length s) ≡ 
   | false ↦ λ z. rw (z, ask) (tree_map f k (decode answered s))
 ]) refl
 
-module _ (s : List ℕ) (k : ℕ) (r : Depth) (g : depth_asked r ≡ get_container_depth s k 4294967295) where
-  container : is_container s k ≡ below_max (depth_asked r)
+module _ (s : List ℕ) (k : ℕ) where
+  container : (r : Result ℕ Refusal) → depth_asked r ≡ get_container_depth s k 4294967295 → is_container s k ≡ below_max (depth_asked r)
   unfolding is_container get_container_depth
-  container = ask_map _ s k ∙ ap below_max (sym g)
+  container r g = ask_map _ s k ∙ ap below_max (sym g)
 
-  pub container_is : {d : ℕ} → r ≡ D.Is d → container_asked (C.Is (ltb d 4294967295)) ≡ is_container s k
-  unfolding container_asked depth_asked below_max
-  container_is e = sym (container ∙ ap (λ (x : Depth). below_max (depth_asked x)) e)
+  pub container_is : {d : ℕ} → depth_asked (Ok d) ≡ get_container_depth s k 4294967295 → container_asked (Ok (ltb d 4294967295)) ≡ is_container s k
+  unfolding below_max
+  container_is {d} g = sym (container (Ok d) g)
 
-  pub container_refused : {n p : ℕ} → r ≡ D.Refused n p → container_asked (C.Refused n p) ≡ is_container s k
-  unfolding container_asked depth_asked below_max
-  container_refused e = sym (container ∙ ap (λ (x : Depth). below_max (depth_asked x)) e)
+  pub container_refused : (e : Refusal) → depth_asked (Err e) ≡ get_container_depth s k 4294967295 → container_asked (Err e) ≡ is_container s k
+  unfolding below_max
+  container_refused e g = sym (container (Err e) g)

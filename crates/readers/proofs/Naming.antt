@@ -3,65 +3,48 @@ use mathlib.Core.Path.{◌≡◌, refl, sym, ap, subst, ◌∙◌}
 use mathlib.Core.Bool.{Bool, true, false, ◌&&◌, not}
 use mathlib.Core.List.{List, [], ◌∷◌, ◌++◌, append_assoc, append-nil, flat_map}
 use mathlib.Core.Option.{some}
-use Prim.Native.Nat.{ℕ, zero, suc, ◌+◌, ◌-◌, ◌≤◌, ◌<◌}
+use Prim.Native.Nat.{ℕ, zero, suc, ◌+◌, ◌≤◌, ◌<◌}
 use native.Mathlib.Omega.{arith}
 use native.Mathlib.Nat.{not-suc-le-zero, le_of_suc-le-suc}
 use lib.Dec.{ltb, leb}
 use lib.ListN.{length, get_or, take, drop, get_elem?, length-append, length-drop}
 use lib.Seq.{length-take-le}
 use borrow.Author.Tests.{ltb-true, leb-true}
-use Rattle.penne.specs.Reader.{Counts, Cur, Got, got, refused, Reader, ◌>>=◌, ret, num, below, such, raw, bytes, moved, many, listed, plus, fits, counted, counting, nothing}
+use Rattle.penne.specs.Reader.{Counts, Cur, Got, got, refused, Reader, ret, num, below, such, raw, bytes, moved, many, listed, plus, fits, counted, counting, nothing}
 use Rattle.penne.specs.Tree.{Spot, Ident, Decl, Tree, Param, Maybe, Ty, structure}
-use Rattle.penne.specs.Read.{place, name, ident, maybe, read_ty, read_param, read_structure, decl_kinds, k_bad_decl, read_constant, read_function, read_function_head, read_import, decl_of, decl_head, decl_counts, read_decl, read_names, among_names}
+use Rattle.penne.specs.Read.{place, name, ident, maybe, read_ty, read_param, read_structure, DeclKind, decl_kinds, k_bad_decl, read_constant, read_function, read_function_head, read_import, decl_of, decl_head, decl_counts, read_decl, read_names, among_names}
 use Rattle.penne.specs.Write.{num_b, bytes_b}
 use Rattle.penne.specs.Scoper.{Asked, told, ask_decl, name_from, structure_name, get_structure_name}
 use Rattle.penne.proofs.Leading.{never, same_value, same_cur}
 use Rattle.penne.proofs.Booleans.{and_right, some_same, none_some}
-use Rattle.fields.specs.declared.number.Read.{Read}
-use Rattle.fields.specs.declared.number.Read.TheVariants.{Number, Refused}
+use Rattle.std.specs.Result.{result_unwrap_or}
+use Rattle.std.specs.Prelude.{Option, Some, None, Result, Ok, Err}
 use Rattle.fields.specs.declared.counts.Counts as C
-use Rattle.fields.specs.declared.counts.Passed.{Passed}
-use Rattle.fields.specs.declared.counts.Passed.TheVariants.{To}
-use Rattle.fields.specs.declared.counts.Passed.TheVariants as P
+use Rattle.fields.specs.declared.refusal.Reason.TheVariants.{NoSuchDeclaration}
+use Rattle.fields.specs.declared.refusal.Refusal.{Refusal}
 use Rattle.tree.specs.declared.script.Layout.{Layout}
-use Rattle.tree.specs.declared.script.Laid.{Laid}
-use Rattle.tree.specs.declared.script.Laid.TheVariants as L
-use Rattle.fields.specs.Answers.{cursor, number_of, end_of, forget, Gives, Reads, Skips, counts_of, passed_of, Passes}
+use Rattle.fields.specs.Answers.{cursor, forget, end_of, Gives, Reads, Skips, counts_of, Passes}
 use Rattle.name_table.specs.Names.{part}
 use Rattle.tree.specs.Script.{Decoded, AnsweredLayout}
-use Rattle.fields.proofs.Chain.{after, here, never', reads}
+use Rattle.fields.proofs.Chain.{after, here, never', then_is}
 use Rattle.fields.proofs.Counting.{counting_no, counting_fits, counting_full}
-use Rattle.fields.proofs.Fields.{stops}
-use Rattle.tree.proofs.Statements.{kind_value}
+use Rattle.tree.proofs.Statements.{looked_up, look_is, kind_value}
 use Rattle.tree.proofs.Scripts.{Yields, yields_bind, yields_ret}
 use Rattle.fields.proofs.Back.{bind_case, many_case}
 use Rattle.answer.proofs.Groups.{number_small}
 use Rattle.answer.proofs.Spelling.{num_reading}
-use Rattle.readers.specs.declared.Named.{Named}
-use Rattle.readers.specs.declared.Named.TheVariants as N
-use Rattle.readers.specs.declared.find.Titled.{Titled}
-use Rattle.readers.specs.declared.find.Titled.TheVariants as T
-use Rattle.readers.specs.Naming.{name_asked, part_told, unnamed_by, Stands, NthDeclaration, titled_by, Titles, NameAt}
+use Rattle.readers.specs.declared.Part.{Part}
+use Rattle.readers.specs.Naming.{name_asked, part_told, Stands, NthDeclaration, titled_by, Titles, NameAt}
 use Rattle.readers.proofs.Asking.{such_go, asks_refused, asks_decoded, long, elem_past, elem_case}
-
--- what the code has read
-module _ {m : Reader ℕ} {s : List ℕ} {names at : ℕ} {r : Read} (g : Reads m s names at r) (k : Counts) where
-  read_is : {v b : ℕ} → r ≡ Number v b → m s (cursor at names k) ≡ got v (cursor b names k)
-  unfolding number_of
-  read_is e = sym (g.is k) ∙ ap (number_of names k) e
-
-  read_not : {i p : ℕ} → r ≡ Refused i p → m s (cursor at names k) ≡ refused i p
-  unfolding number_of
-  read_not e = sym (g.is k) ∙ ap (number_of names k) e
 
 -- THE DECLARATION BEHIND n OTHERS
 
+-- so many others are left from `cur` on, where k is counted
 pub record Passing (s : List ℕ) (names at n rest : ℕ) (k : C.Counts) (cur : ℕ) : Type 0 where
-  pub on : (r : ℕ) → NthDeclaration s names (counts_of k) cur rest r → NthDeclaration s names nothing at n r
+  pub on : (r : Result ℕ Refusal) → NthDeclaration s names (counts_of k) cur rest r → NthDeclaration s names nothing at n r
 
-pub passing_start : {s : List ℕ} {names at n : ℕ} → Passing s names at n n (record { containers = 0; functions = 0; entries = 0; statements = 0 }) at
-unfolding nothing
-passing_start = record { on = λ r h. h }
+pub passing_start : {s : List ℕ} {names at n : ℕ} {k : C.Counts} → counts_of k ≡ nothing → Passing s names at n n k at
+passing_start z = record { on = λ r h. rw z at h }
 
 -- what is first of the declarations, and what is left
 decls_case : {X : Type 0} (count : ℕ) (s : List ℕ) (c : Cur) (n : ℕ) {ds : List (Decl Spot)} {e : Cur} {d : Decl Spot} → many read_decl count s c ≡ got ds e → get_elem? ds n ≡ some d →
@@ -71,36 +54,33 @@ decls_case zero s c n {ds} {e} {d} h w next = none_some _ (sym (ap (λ (l : List
 decls_case (suc count) s c n h w next = many_case read_decl count s c h λ a c₁ tail h₁ h₂ z. next count a c₁ tail h₁ h₂ (ap (λ (l : List (Decl Spot)). get_elem? l n) (sym z) ∙ w)
 
 module _ {s : List ℕ} {names : ℕ} {k : C.Counts} {cur : ℕ} where
-  here_go : (n : ℕ) → n ≡ 0 → NthDeclaration s names (counts_of k) cur n cur
-  here_go zero z = record { is = λ count ds c d h w. decls_case count s _ 0 h w λ rest a c₁ tail h₁ h₂ y. record { counts = counts_of k; next = c₁; read = h₁ ∙ ap (λ (x : Decl Spot). got x c₁) (some_same y) } }
-  here_go (suc n) z = absurd (omega arith)
+  here_is : NthDeclaration s names (counts_of k) cur 0 (Ok cur)
+  here_is = record { is = λ count ds c d h w. decls_case count s _ 0 h w λ rest a c₁ tail h₁ h₂ y. record { counts = counts_of k; next = c₁; read = h₁ ∙ ap (λ (x : Decl Spot). got x c₁) (some_same y) } }
 
-  pub passing_done : {at n rest : ℕ} → Passing s names at n rest k cur → rest ≡ 0 → NthDeclaration s names nothing at n cur
-  passing_done {rest = rest} p z = p.on cur (here_go rest z)
+  -- a declaration that was read once is not refused
+  never_go : {n : ℕ} {e : Refusal} → Passes read_decl s names k cur (Err e) → NthDeclaration s names (counts_of k) cur n (Err e)
+  unfolding forget
+  never_go {n} o = record { is = λ count ds c d h w. decls_case count s _ n h w λ rest a c₁ tail h₁ h₂ y. never' (sym o.is ∙ ap forget h₁) }
 
-  module _ {one : Passed} (o : Passes read_decl s names k cur one) where
-    never_go : {n r i p : ℕ} → one ≡ P.Refused i p → NthDeclaration s names (counts_of k) cur n r
-    unfolding passed_of forget
-    never_go {n} e = record { is = λ count ds c d h w. decls_case count s _ n h w λ rest a c₁ tail h₁ h₂ y. never' (sym (ap (passed_of names) e) ∙ o.is ∙ ap forget h₁) }
+  module _ {b : ℕ} {more : C.Counts} (o : Passes read_decl s names k cur (Ok (b, more))) where
+    behind : {d : Decl Spot} {c : Cur} → read_decl s (cursor cur names (counts_of k)) ≡ got d c → cursor b names (counts_of more) ≡ c
+    unfolding forget
+    behind h = here (sym o.is ∙ ap forget h)
 
-    -- a declaration that was read once is not refused
-    pub passing_never : {at n rest i p r : ℕ} → Passing s names at n rest k cur → one ≡ P.Refused i p → NthDeclaration s names nothing at n r
-    passing_never {r = r} p e = p.on r (never_go e)
+    one_more : {n : ℕ} {r : Result ℕ Refusal} → NthDeclaration s names (counts_of more) b n r → NthDeclaration s names (counts_of k) cur (suc n) r
+    one_more {n} t = record { is = λ count ds c d h w. decls_case count s _ (suc n) h w λ rest a c₁ tail h₁ h₂ y. t.is rest tail c d (subst (λ (x : Cur). many read_decl rest s x ≡ got tail c) (sym (behind h₁)) h₂) y }
 
-    module _ {b : ℕ} {more : C.Counts} (e : one ≡ To b more) where
-      behind : {d : Decl Spot} {c : Cur} → read_decl s (cursor cur names (counts_of k)) ≡ got d c → cursor b names (counts_of more) ≡ c
-      unfolding passed_of forget
-      behind h = here (sym (ap (passed_of names) e) ∙ o.is ∙ ap forget h)
+  module _ {at n rest : ℕ} (p : Passing s names at n rest k cur) where
+    pub passing_done : rest ≡ 0 → NthDeclaration s names nothing at n (Ok cur)
+    passing_done z = p.on _ (subst (λ (j : ℕ). NthDeclaration s names (counts_of k) cur j (Ok cur)) (sym z) here_is)
 
-      one_more : (n : ℕ) {r : ℕ} → (n ≡ 0 → ⊥) → NthDeclaration s names (counts_of more) b (n - 1) r → NthDeclaration s names (counts_of k) cur n r
-      one_more zero z t = absurd (z refl)
-      one_more (suc n) {r} z t =
-          let q : suc n - 1 ≡ n = omega arith in
-          let u : NthDeclaration s names (counts_of more) b n r = subst (λ (j : ℕ). NthDeclaration s names (counts_of more) b j r) q t in
-          record { is = λ count ds c d h w. decls_case count s _ (suc n) h w λ rest a c₁ tail h₁ h₂ y. u.is rest tail c d (subst (λ (x : Cur). many read_decl rest s x ≡ got tail c) (sym (behind h₁)) h₂) y }
+    pub passing_never : {e : Refusal} → Passes read_decl s names k cur (Err e) → NthDeclaration s names nothing at n (Err e)
+    passing_never o = p.on _ (never_go o)
 
-      pub passing_more : {at n rest : ℕ} → Passing s names at n rest k cur → (rest ≡ 0 → ⊥) → Passing s names at n (rest - 1) more b
-      passing_more {rest = rest} p z = record { on = λ r t. p.on r (one_more rest z t) }
+    pub passing_more : {rest' b : ℕ} {more : C.Counts} → rest ≡ suc rest' → Passes read_decl s names k cur (Ok (b, more)) → Passing s names at n rest' more b
+    passing_more z o = record { on = λ r t. p.on r (subst (λ (j : ℕ). NthDeclaration s names (counts_of k) cur j r) (sym z) (one_more o t)) }
+
+pub ruleset passings = (passing_start, passing_done, passing_never, passing_more)
 
 -- A STRUCTURE'S NAME NUMBER
 
@@ -145,67 +125,65 @@ untitled (suc (suc (suc (suc zero)))) z = yields_bind _ _ λ b. yields_bind _ _ 
 untitled (suc (suc (suc (suc (suc zero))))) z = yields_bind _ _ λ p. yields_ret _ _ (λ _. refl)
 untitled (suc (suc (suc (suc (suc (suc k)))))) z = yields_bind _ _ λ p. yields_ret _ _ (λ _. refl)
 
-title_never : {s : List ℕ} {names at : ℕ} {r : Titled} → ((d : Decl Spot) → Stands s names at d → ⊥) → Titles s names at r
-title_never h = record { is = λ d g t. absurd (h d g); known = λ d g n e. absurd (h d g) }
+title_never : {s : List ℕ} {names at : ℕ} {r : Result (Option ℕ) Refusal} → ((d : Decl Spot) → Stands s names at d → ⊥) → Titles s names at r
+title_never h = record { is = λ d g t. absurd (h d g); known = λ d g. absurd (h d g) }
 
-not_by : {n : ℕ} {X : Type 0} → T.Not ≡ T.By n → X
-not_by e = let z : ◌≡◌ {A = ℕ} 0 1 = cc in absurd (omega arith)
+abbrev kinds : ℕ → DeclKind
+kinds n = get_or decl_kinds n k_bad_decl
 
-by_is : {n j : ℕ} → T.By n ≡ T.By j → n ≡ j
-by_is e = cc
+pub title_unread : {s : List ℕ} {names at : ℕ} {e : Refusal} → Gives (below 6) s at (Err e) → Titles s names at (Err e)
+unfolding read_decl decl_head
+title_unread {s} {names} g₁ = title_never λ d g. bind_case (counting decl_counts decl_head) (decl_of 63) s _ g.read λ kd c₁ h₁ h₂.
+    never (sym (counting_no decl_counts decl_head s _ (look_is kinds 6 s _ ∙ ap (looked_up kinds) (g₁.is names g.counts))) ∙ h₁)
 
-module _ {s : List ℕ} {names at : ℕ} {m₁ : Read} (g₁ : Gives (below 6) s at m₁) where
-  pub title_unread : {r : Titled} {i p : ℕ} → m₁ ≡ Refused i p → Titles s names at r
-  unfolding read_decl decl_head
-  title_unread e = title_never λ d g. bind_case (counting decl_counts decl_head) (decl_of 63) s _ g.read λ kd c₁ h₁ h₂. never (sym (counting_no decl_counts decl_head s _ (stops _ (reads g₁) g.counts e)) ∙ h₁)
+module _ {s : List ℕ} {names at v a : ℕ} (g₁ : Gives (below 6) s at (Ok (v, a))) where
+  kind_case : {X : Type 0} {d : Decl Spot} → Stands s names at d → ((k : Counts) (c : Cur) → decl_of 63 (kinds v) s (cursor a names k) ≡ got d c → X) → X
+  unfolding read_decl decl_head counted
+  kind_case g next = bind_case (counting decl_counts decl_head) (decl_of 63) s _ g.read λ kd c₁ h₁ h₂.
+      let z = counting_is decl_counts decl_head s _ (kind_value kinds 6 g₁ g.counts) h₁ in
+      next _ _ ((λ j. decl_of 63 (z.0 j) s (z.1 j)) ∙ h₂)
 
-  module _ {v a : ℕ} (e₁ : m₁ ≡ Number v a) where
-    kind_case : {X : Type 0} {d : Decl Spot} → Stands s names at d → ((k : Counts) (c : Cur) → decl_of 63 (get_or decl_kinds v k_bad_decl) s (cursor a names k) ≡ got d c → X) → X
-    unfolding read_decl decl_head counted
-    kind_case g next = bind_case (counting decl_counts decl_head) (decl_of 63) s _ g.read λ kd c₁ h₁ h₂.
-        let z = counting_is decl_counts decl_head s _ (kind_value _ 6 g₁ g.counts e₁) h₁ in
-        next _ _ ((λ j. decl_of 63 (z.0 j) s (z.1 j)) ∙ h₂)
+  pub title_other : (v ≡ 3 → ⊥) → Titles s names at (Ok None)
+  title_other z = record { is = λ d g t. kind_case g λ k c h. (untitled v z).all s _ d c h t; known = λ d g. tt }
 
-    pub title_other : (v ≡ 3 → ⊥) → Titles s names at T.Not
-    unfolding titled_by
-    title_other z = record { is = λ d g t. kind_case g λ k c h. (untitled v z).all s _ d c h t; known = λ d g n e. not_by e }
+  module _ (z : v ≡ 3) where
+    -- the structure that stands there
+    structure_case : {X : Type 0} {d : Decl Spot} → Stands s names at d → ((k : Counts) (f : ℕ) (p : Spot) (i : Ident Spot) (ms : List (Param Spot)) (t : Maybe Spot (Ty Spot)) (c₁ c₂ c₃ : Cur) →
+        below 32 s (cursor a names k) ≡ got f c₁ → place s c₁ ≡ got p c₂ → ident s c₂ ≡ got i c₃ → structure f p i ms t ≡ d → X) → X
+    unfolding decl_of decl_kinds read_structure ret
+    structure_case g next = kind_case g λ k c h.
+        bind_case (below 32) _ s _ (ap (λ (j : ℕ). decl_of 63 (kinds j) s (cursor a names k)) (sym z) ∙ h) λ f c₁ e₁ h₁. bind_case place _ s c₁ h₁ λ p c₂ e₂ h₂. bind_case ident _ s c₂ h₂ λ i c₃ e₃ h₃.
+        bind_case (listed (read_param 63 true)) _ s c₃ h₃ λ ms c₄ e₄ h₄. bind_case (maybe (read_ty 63 false)) _ s c₄ h₄ λ t c₅ e₅ h₅. next k f p i ms t c₁ c₂ c₃ e₁ e₂ e₃ (same_value h₅)
 
-    module _ (z : v ≡ 3) {m₂ : Read} (g₂ : Gives (below 32) s a m₂) where
-      -- the structure that stands there
-      structure_case : {X : Type 0} {d : Decl Spot} → Stands s names at d → ((k : Counts) (f : ℕ) (p : Spot) (i : Ident Spot) (ms : List (Param Spot)) (t : Maybe Spot (Ty Spot)) (c₁ c₂ c₃ : Cur) →
-          below 32 s (cursor a names k) ≡ got f c₁ → place s c₁ ≡ got p c₂ → ident s c₂ ≡ got i c₃ → structure f p i ms t ≡ d → X) → X
-      unfolding decl_of decl_kinds read_structure ret
-      structure_case g next = kind_case g λ k c h.
-          bind_case (below 32) _ s _ (ap (λ (j : ℕ). decl_of 63 (get_or decl_kinds j k_bad_decl) s (cursor a names k)) (sym z) ∙ h) λ f c₁ e₁ h₁. bind_case place _ s c₁ h₁ λ p c₂ e₂ h₂. bind_case ident _ s c₂ h₂ λ i c₃ e₃ h₃.
-          bind_case (listed (read_param 63 true)) _ s c₃ h₃ λ ms c₄ e₄ h₄. bind_case (maybe (read_ty 63 false)) _ s c₄ h₄ λ t c₅ e₅ h₅. next k f p i ms t c₁ c₂ c₃ e₁ e₂ e₃ (same_value h₅)
+    pub title_flags : {e : Refusal} → Gives (below 32) s a (Err e) → Titles s names at (Err e)
+    title_flags g₂ = title_never λ d g. structure_case g λ k f p i ms t c₁ c₂ c₃ h₁ h₂ h₃ w. never (sym (g₂.is names k) ∙ h₁)
 
-      pub title_flags : {r : Titled} {i p : ℕ} → m₂ ≡ Refused i p → Titles s names at r
-      title_flags e = title_never λ d g. structure_case g λ k f p i ms t c₁ c₂ c₃ h₁ h₂ h₃ w. never (sym (read_not (reads g₂) k e) ∙ h₁)
+    module _ {v₂ b : ℕ} (g₂ : Gives (below 32) s a (Ok (v₂, b))) where
+      flags_case : {X : Type 0} {d : Decl Spot} → Stands s names at d → ((k : Counts) (f : ℕ) (p : Spot) (i : Ident Spot) (ms : List (Param Spot)) (t : Maybe Spot (Ty Spot)) (c₂ c₃ : Cur) (v : ℕ) →
+          num s (cursor b names k) ≡ got v c₂ → ident s c₂ ≡ got i c₃ → structure f p i ms t ≡ d → X) → X
+      flags_case g next = structure_case g λ k f p i ms t c₁ c₂ c₃ h₁ h₂ h₃ w.
+          place_num s _ (ap (place s) (same_cur (sym (g₂.is names k) ∙ h₁)) ∙ h₂) λ v h. next k f p i ms t c₂ c₃ v h h₃ w
 
-      module _ {v₂ b : ℕ} (e₂ : m₂ ≡ Number v₂ b) {m₃ : Read} (g₃ : Gives num s b m₃) where
-        flags_case : {X : Type 0} {d : Decl Spot} → Stands s names at d → ((k : Counts) (f : ℕ) (p : Spot) (i : Ident Spot) (ms : List (Param Spot)) (t : Maybe Spot (Ty Spot)) (c₂ c₃ : Cur) (v : ℕ) →
-            num s (cursor b names k) ≡ got v c₂ → ident s c₂ ≡ got i c₃ → structure f p i ms t ≡ d → X) → X
-        flags_case g next = structure_case g λ k f p i ms t c₁ c₂ c₃ h₁ h₂ h₃ w.
-            place_num s _ (ap (place s) (same_cur (sym (read_is (reads g₂) k e₂) ∙ h₁)) ∙ h₂) λ v h. next k f p i ms t c₂ c₃ v h h₃ w
+      pub title_place : {e : Refusal} → Gives num s b (Err e) → Titles s names at (Err e)
+      title_place g₃ = title_never λ d g. flags_case g λ k f p i ms t c₂ c₃ v h₂ h₃ w. never (sym (g₃.is names k) ∙ h₂)
 
-        pub title_place : {r : Titled} {i p : ℕ} → m₃ ≡ Refused i p → Titles s names at r
-        title_place e = title_never λ d g. flags_case g λ k f p i ms t c₂ c₃ v h₂ h₃ w. never (sym (read_not (reads g₃) k e) ∙ h₂)
+      module _ {v₃ c : ℕ} (g₃ : Gives num s b (Ok (v₃, c))) where
+        place_case : {X : Type 0} {d : Decl Spot} → Stands s names at d → ((k : Counts) (f : ℕ) (p : Spot) (i : Ident Spot) (ms : List (Param Spot)) (t : Maybe Spot (Ty Spot)) (c₃ : Cur) →
+            name s (cursor c names k) ≡ got i.name c₃ → structure f p i ms t ≡ d → X) → X
+        place_case g next = flags_case g λ k f p i ms t c₂ c₃ v h₂ h₃ w.
+            ident_name s _ (ap (ident s) (same_cur (sym (g₃.is names k) ∙ h₂)) ∙ h₃) λ c₄ h. next k f p i ms t c₄ h w
 
-        module _ {v₃ c : ℕ} (e₃ : m₃ ≡ Number v₃ c) {m₄ : Read} (g₄ : Reads name s names c m₄) where
-          place_case : {X : Type 0} {d : Decl Spot} → Stands s names at d → ((k : Counts) (f : ℕ) (p : Spot) (i : Ident Spot) (ms : List (Param Spot)) (t : Maybe Spot (Ty Spot)) (c₃ : Cur) →
-              name s (cursor c names k) ≡ got i.name c₃ → structure f p i ms t ≡ d → X) → X
-          place_case g next = flags_case g λ k f p i ms t c₂ c₃ v h₂ h₃ w.
-              ident_name s _ (ap (ident s) (same_cur (sym (read_is (reads g₃) k e₃) ∙ h₂)) ∙ h₃) λ c₄ h. next k f p i ms t c₄ h w
+        pub title_name : {e : Refusal} → Reads name s names c (Err e) → Titles s names at (Err e)
+        title_name g₄ = title_never λ d g. place_case g λ k f p i ms t c₃ h w. never (sym (g₄.is k) ∙ h)
 
-          pub title_name : {r : Titled} {i p : ℕ} → m₄ ≡ Refused i p → Titles s names at r
-          title_name e = title_never λ d g. place_case g λ k f p i ms t c₃ h w. never (sym (read_not g₄ k e) ∙ h)
+        pub title_is : {n e : ℕ} → Reads name s names c (Ok (n, e)) → Titles s names at (Ok (Some n))
+        unfolding structure_name
+        title_is {n} {e} g₄ = record {
+          is = λ d g t. place_case g λ k f p i ms y c₃ h q. ap (structure_name t) (sym q) ∙ ap (λ (j : ℕ). (name_from t.names j, length (get_or t.names j []))) (sym (same_value (sym (g₄.is k) ∙ h)));
+          known = λ d g. place_case g λ k f p i ms y c₃ h _. name_known s (cursor c names k) (g₄.is k);
+        }
 
-          pub title_is : {n e : ℕ} → m₄ ≡ Number n e → Titles s names at (T.By n)
-          unfolding structure_name titled_by
-          title_is {n} {e} w = record {
-            is = λ d g t. place_case g λ k f p i ms y c₃ h q. ap (structure_name t) (sym q) ∙ ap (λ (j : ℕ). (name_from t.names j, length (get_or t.names j []))) (sym (same_value (sym (read_is g₄ k w) ∙ h)));
-            known = λ d g j q. place_case g λ k f p i ms y c₃ h _. subst (λ (x : ℕ). x < names) (by_is q) (name_known s (cursor c names k) (read_is g₄ k w));
-          }
+pub ruleset titles = (title_unread, title_other, title_flags, title_place, title_name, title_is)
 
 -- A NAME OF THE TABLE
 
@@ -222,8 +200,8 @@ raw_is n s c {b} {d} e = (elim (leb (c.at + n) (length s)) as (λ t. leb (c.at +
 ]) refl e
 
 bytes_is : (s : List ℕ) (c : Cur) {c₁ c₂ : Cur} {n : ℕ} {b : List ℕ} → num s c ≡ got n c₁ → raw n s c₁ ≡ got b c₂ → bytes s c ≡ got b c₂
-unfolding bytes ◌>>=◌
-bytes_is s c e h = ap (after raw s) e ∙ h
+unfolding bytes
+bytes_is s c e h = then_is num raw s c ∙ ap (after raw s) e ∙ h
 
 -- what was read behind `before` is a table
 pub record Rest (s : List ℕ) (count : ℕ) (before : List (List ℕ)) (c : Cur) (ns : List (List ℕ)) : Type 0 where
@@ -261,37 +239,37 @@ read_table (suc count) before s c {ns} e =
 abbrev place_of : ℕ → ℕ → List (List ℕ) → Asked (ℕ × ℕ)
 place_of cur n names = told (cur + length (flat_map bytes_b (take n names)) + 1, length (get_or names n []))
 
-pub record Found (s : List ℕ) (cur n : ℕ) (r : Named) : Type 0 where
+pub record Found (s : List ℕ) (cur n : ℕ) (r : Result Part Refusal) : Type 0 where
   pub is : (c : Cur) (names : List (List ℕ)) → Table s c names → c.at ≡ cur → n < length names → name_asked r ≡ place_of cur n names
 
-pub found_named : {s : List ℕ} {at n : ℕ} {r : Named} → Found s at n r → NameAt s at n r
+found_named : {s : List ℕ} {at n : ℕ} {r : Result Part Refusal} → Found s at n r → NameAt s at n r
 found_named {s} {at} {n} {r} f = record {
   is = λ count names c e h.
       let t = read_table count [] s _ e in
-      subst (λ (l : List (List ℕ)). name_asked r ≡ place_of at n l) (sym t.is) (f.is _ t.names t.table refl (omega (arith, t.many)));
+      subst (λ (l : List (List ℕ)). name_asked r ≡ place_of at n l) (sym t.is) (f.is _ t.names t.table refl (omega (arith, h, t.many)));
 }
 
+-- so many names are left from `cur` on
 pub record Seeking (s : List ℕ) (at n rest cur : ℕ) : Type 0 where
-  pub on : (r : Named) → Found s cur rest r → Found s at n r
+  pub on : (r : Result Part Refusal) → Found s cur rest r → Found s at n r
 
 pub seeking_start : {s : List ℕ} {at n : ℕ} → Seeking s at n n at
 seeking_start = record { on = λ r f. f }
 
-module _ {s : List ℕ} {cur : ℕ} {m : Read} (g : Skips bytes s cur m) where
-  unnamed_go : {n i p : ℕ} (r : Named) → m ≡ Refused i p → (c : Cur) (names : List (List ℕ)) → Table s c names → c.at ≡ cur → n < length names → name_asked r ≡ place_of cur n names
-  unfolding end_of forget
-  unnamed_go r e c [] none' z h = absurd (not-suc-le-zero h)
-  unnamed_go r e c (b ∷ bs) (more' c₁ c₂ small number one text two t) z h =
-      never' (sym (ap (end_of c.names c.counts) e) ∙ (g.ends c.names).is c.counts ∙ ap (λ (j : ℕ). forget (bytes s (cursor j c.names c.counts))) (sym z) ∙ ap forget text)
+module _ {s : List ℕ} {cur : ℕ} where
+  -- what was read at a cursor that stands there
+  at_cur : {A : Type 0} {r : Result ℕ Refusal} (m : Reader A) → Skips m s cur r → (c : Cur) → c.at ≡ cur → forget (m s c) ≡ end_of c.names c.counts r
+  at_cur {r = r} m g c z = ap (λ (j : ℕ). forget (m s (cursor j c.names c.counts))) z ∙ g.is c.names c.counts
 
-  -- names that were read once are not refused
-  pub seeking_never : {at n rest i p : ℕ} {r : Named} → Seeking s at n rest cur → m ≡ Refused i p → NameAt s at n r
-  seeking_never {r = r} k e = found_named (k.on r (record { is = unnamed_go r e }))
+  unnamed_go : {n : ℕ} {e : Refusal} (r : Result Part Refusal) → Skips bytes s cur (Err e) → (c : Cur) (names : List (List ℕ)) → Table s c names → c.at ≡ cur → n < length names → name_asked r ≡ place_of cur n names
+  unfolding forget
+  unnamed_go r g c [] none' z h = absurd (not-suc-le-zero h)
+  unnamed_go r g c (b ∷ bs) (more' c₁ c₂ small number one text two t) z h = never' (sym (at_cur bytes g c z) ∙ ap forget text)
 
-  module _ {v b : ℕ} (e : m ≡ Number v b) where
+  module _ {b : ℕ} (g : Skips bytes s cur (Ok b)) where
     next_at : (c : Cur) {c₂ : Cur} {x : List ℕ} → c.at ≡ cur → bytes s c ≡ got x c₂ → b ≡ c₂.at
-    unfolding end_of forget
-    next_at c z text = ap (λ (x : Cur). x.at) (here (sym (ap (end_of c.names c.counts) e) ∙ (g.ends c.names).is c.counts ∙ ap (λ (j : ℕ). forget (bytes s (cursor j c.names c.counts))) (sym z) ∙ ap forget text))
+    unfolding forget
+    next_at c z text = ap (λ (x : Cur). x.at) (here (sym (at_cur bytes g c z) ∙ ap forget text))
 
     further : (x : List ℕ) (xs : List (List ℕ)) (n : ℕ) → length x < 128 → b ≡ cur + 1 + length x → place_of b n xs ≡ place_of cur (suc n) (x ∷ xs)
     unfolding flat_map bytes_b
@@ -299,96 +277,104 @@ module _ {s : List ℕ} {cur : ℕ} {m : Read} (g : Skips bytes s cur m) where
         let q : b + length (flat_map bytes_b (take n xs)) + 1 ≡ cur + length (bytes_b x ++ flat_map bytes_b (take n xs)) + 1 = omega (arith, z, length-append (bytes_b x) (flat_map bytes_b (take n xs)), length-append (num_b (length x)) x, ap length (number_small (length x) small)) in
         ap (λ (j : ℕ). told (j, length (get_or xs n []))) q
 
-    more_go : {n : ℕ} (r : Named) → Found s b n r → (c : Cur) (names : List (List ℕ)) → Table s c names → c.at ≡ cur → suc n < length names → name_asked r ≡ place_of cur (suc n) names
+    more_go : {n : ℕ} (r : Result Part Refusal) → Found s b n r → (c : Cur) (names : List (List ℕ)) → Table s c names → c.at ≡ cur → suc n < length names → name_asked r ≡ place_of cur (suc n) names
     more_go r f c [] none' z h = absurd (not-suc-le-zero h)
     more_go {n} r f c (x ∷ xs) (more' c₁ c₂ small number one text two t) z h =
         f.is c₂ xs t (sym (next_at c z text)) (le_of_suc-le-suc h) ∙ further x xs n small (next_at c z text ∙ two ∙ ap (λ (j : ℕ). j + 1 + length x) z)
 
-    one_name : (n : ℕ) {r : Named} → (n ≡ 0 → ⊥) → Found s b (n - 1) r → Found s cur n r
-    one_name zero z f = absurd (z refl)
-    one_name (suc n) {r} z f = let q : suc n - 1 ≡ n = omega arith in record { is = more_go r (subst (λ (j : ℕ). Found s b j r) q f) }
+  lost_go : {n : ℕ} {e : Refusal} (r : Result Part Refusal) → Gives num s cur (Err e) → (c : Cur) (names : List (List ℕ)) → Table s c names → c.at ≡ cur → n < length names → name_asked r ≡ place_of cur n names
+  lost_go r g c [] none' z h = absurd (not-suc-le-zero h)
+  lost_go r g c (b ∷ bs) (more' c₁ c₂ small number one text two t) z h = never (sym (g.is c.names c.counts) ∙ ap (λ (j : ℕ). num s (cursor j c.names c.counts)) (sym z) ∙ number)
 
-    pub seeking_more : {at n rest : ℕ} → Seeking s at n rest cur → (rest ≡ 0 → ⊥) → Seeking s at n (rest - 1) b
-    seeking_more {rest = rest} k z = record { on = λ r f. k.on r (one_name rest z f) }
-
-module _ {s : List ℕ} {cur : ℕ} {m : Read} (g : Gives num s cur m) where
-  lost_go : {n i p : ℕ} (r : Named) → m ≡ Refused i p → (c : Cur) (names : List (List ℕ)) → Table s c names → c.at ≡ cur → n < length names → name_asked r ≡ place_of cur n names
-  lost_go r e c [] none' z h = absurd (not-suc-le-zero h)
-  lost_go r e c (b ∷ bs) (more' c₁ c₂ small number one text two t) z h =
-      never (sym (read_not (reads g) c.counts e) ∙ ap (λ (j : ℕ). num s (cursor j c.names c.counts)) (sym z) ∙ number)
-
-  pub seeking_lost : {at n rest i p : ℕ} {r : Named} → Seeking s at n rest cur → m ≡ Refused i p → NameAt s at n r
-  seeking_lost {r = r} k e = found_named (k.on r (record { is = lost_go r e }))
-
-  found_go : {v b : ℕ} → m ≡ Number v b → (n : ℕ) → n ≡ 0 → (c : Cur) (names : List (List ℕ)) → Table s c names → c.at ≡ cur → n < length names → name_asked (N.At b v) ≡ place_of cur n names
-  unfolding name_asked flat_map
-  found_go e zero y c [] none' z h = absurd (not-suc-le-zero h)
-  found_go {v} {b} e zero y c (x ∷ xs) (more' c₁ c₂ small number one text two t) z h =
-      let q = sym (read_is (reads g) c.counts e) ∙ ap (λ (j : ℕ). num s (cursor j c.names c.counts)) (sym z) ∙ number in
+  found_go : {v b : ℕ} → Gives num s cur (Ok (v, b)) → (c : Cur) (names : List (List ℕ)) → Table s c names → c.at ≡ cur → 0 < length names → name_asked (Ok (record { start = b; length = v })) ≡ place_of cur 0 names
+  unfolding flat_map
+  found_go g c [] none' z h = absurd (not-suc-le-zero h)
+  found_go {v} {b} g c (x ∷ xs) (more' c₁ c₂ small number one text two t) z h =
+      let q = sym (g.is c.names c.counts) ∙ ap (λ (j : ℕ). num s (cursor j c.names c.counts)) (sym z) ∙ number in
       let start : b ≡ cur + 0 + 1 = ap (λ (d : Cur). d.at) (same_cur q) ∙ omega (arith, one, z) in
       let width : v ≡ length x = same_value q in
       λ j. told (start j, width j)
-  found_go e (suc n) y c names t z h = absurd (omega arith)
 
-  pub seeking_done : {at n rest v b : ℕ} → Seeking s at n rest cur → rest ≡ 0 → m ≡ Number v b → NameAt s at n (N.At b v)
-  seeking_done {rest = rest} k z e = found_named (k.on _ (record { is = found_go e rest z }))
+  module _ {at n rest : ℕ} (k : Seeking s at n rest cur) where
+    -- names that were read once are not refused
+    pub seeking_never : {e : Refusal} → Skips bytes s cur (Err e) → NameAt s at n (Err e)
+    seeking_never {e} g = found_named (k.on (Err e) (record { is = unnamed_go (Err e) g }))
+
+    pub seeking_more : {rest' b : ℕ} → rest ≡ suc rest' → Skips bytes s cur (Ok b) → Seeking s at n rest' b
+    seeking_more z g = record { on = λ r f. k.on r (subst (λ (j : ℕ). Found s cur j r) (sym z) (record { is = more_go g r f })) }
+
+    pub seeking_lost : {e : Refusal} → Gives num s cur (Err e) → NameAt s at n (Err e)
+    seeking_lost {e} g = found_named (k.on (Err e) (record { is = lost_go (Err e) g }))
+
+    pub seeking_done : {v b : ℕ} → rest ≡ 0 → Gives num s cur (Ok (v, b)) → NameAt s at n (Ok (record { start = b; length = v }))
+    seeking_done {v} {b} z g = found_named (k.on _ (subst (λ (j : ℕ). Found s cur j (Ok (record { start = b; length = v }))) (sym z) (record { is = found_go g })))
+
+pub ruleset seekings = (seeking_start, seeking_never, seeking_more, seeking_lost, seeking_done)
 
 -- ASKING FOR THE NAME
 
 module _ {s : List ℕ} (k : ℕ) where
-  pub name_refused : {x : Laid} {y : Named} {i p : ℕ} → AnsweredLayout s x → x ≡ L.Refused i p → y ≡ unnamed_by x → name_asked y ≡ get_structure_name s k
-  unfolding name_asked get_structure_name
-  name_refused {i = i} {p} g e z = ap name_asked (z ∙ ap unnamed_by e) ∙ sym (asks_refused _ s k (g.not i p e))
+  pub name_refused : {e : Refusal} → AnsweredLayout s (Err e) → name_asked (Err e) ≡ get_structure_name s k
+  unfolding get_structure_name
+  name_refused g = sym (asks_refused _ s k g.not)
 
-  module _ {x : Laid} {l : Layout} (g : AnsweredLayout s x) (e : x ≡ L.Out l) where
+  module _ {l : Layout} (g : AnsweredLayout s (Ok l)) where
     abbrev d : Decoded s l
-    d = g.out l e
+    d = g.out
 
     abbrev whole : Tree Spot
     whole = record { names = d.laid.table; decls = d.laid.decls; depths = d.depths }
 
-    pub name_past : l.count ≤ k → name_asked (N.Refused 13 0) ≡ get_structure_name s k
-    unfolding name_asked get_structure_name ask_decl
-    name_past h = sym (asks_decoded _ k d ∙ ap (ask_decl _) (elem_past d.laid.decls k (omega (arith, long d))))
+    pub name_past : l.count ≤ k → name_asked (Err (record { reason = NoSuchDeclaration; place = 0 })) ≡ get_structure_name s k
+    unfolding get_structure_name ask_decl
+    name_past h = sym (asks_decoded _ k d ∙ ap (ask_decl _) (elem_past d.laid.decls k (omega (arith, h, long d))))
 
-    module _ (h : k < l.count) {at : ℕ} (o : NthDeclaration s l.names nothing l.first k at) {r : Titled} (y : Titles s l.names at r) where
-      -- what is told of the declaration
-      told_is : {X : Type 0} → ((a : Decl Spot) → Stands s l.names at a → get_structure_name s k ≡ told (titled_by whole r) → X) → X
-      unfolding get_structure_name ask_decl
-      told_is next = elem_case d.laid.decls k (omega (arith, long d)) λ a w.
-          let stands = o.is l.count d.laid.decls _ a d.laid.read w in
-          next a stands (asks_decoded structure_name k d ∙ ap (ask_decl (structure_name whole)) w ∙ ap told (y.is a stands whole))
+    module _ (h : k < l.count) where
+      -- the declaration is one that was read
+      decl_case : {X : Type 0} → ((a : Decl Spot) → get_elem? d.laid.decls k ≡ some a → X) → X
+      decl_case next = elem_case d.laid.decls k (omega (arith, h, long d)) next
 
-      pub name_other : r ≡ T.Not → name_asked (N.At 0 0) ≡ get_structure_name s k
-      unfolding name_asked titled_by
-      name_other q = told_is λ a stands w. sym (w ∙ ap (λ (z : Titled). told (titled_by whole z)) q)
+      pub name_lost : {e : Refusal} → NthDeclaration s l.names nothing l.first k (Err e) → name_asked (Err e) ≡ get_structure_name s k
+      name_lost o = decl_case λ a w. absurd (o.is l.count d.laid.decls _ a d.laid.read w)
 
-      module _ {m : Read} (g₂ : Gives num s 0 m) where
-        pub name_unread : {i p : ℕ} → m ≡ Refused i p → name_asked (N.At 0 0) ≡ get_structure_name s k
-        name_unread q = never (sym (read_not (reads g₂) nothing q) ∙ d.laid.counted)
+      module _ {at : ℕ} (o : NthDeclaration s l.names nothing l.first k (Ok at)) where
+        -- what is told of the declaration
+        told_case : {X : Type 0} → ((a : Decl Spot) → Stands s l.names at a → get_structure_name s k ≡ told (structure_name whole a) → X) → X
+        unfolding get_structure_name ask_decl
+        told_case next = decl_case λ a w. next a (o.is l.count d.laid.decls _ a d.laid.read w) (asks_decoded structure_name k d ∙ ap (ask_decl (structure_name whole)) w)
 
-        -- behind the count, the names before it and its own length
-        from_is : {v b : ℕ} (n : ℕ) → m ≡ Number v b → place_of b n d.laid.table ≡ told (titled_by whole (T.By n))
-        unfolding titled_by name_from
-        from_is {v} {b} n q =
-            let t = read_table l.names [] s _ d.laid.named in
-            let many : length d.laid.table ≡ l.names = ap length t.is ∙ t.many in
-            let begin : b ≡ d.laid.begin = ap (λ (c : Cur). c.at) (same_cur (sym (read_is (reads g₂) nothing q) ∙ d.laid.counted)) in
-            let spelt : b ≡ length (num_b (length d.laid.table)) = begin ∙ sym (num_reading s _ _ _ d.laid.counted).long ∙ omega (arith, ap (λ (j : ℕ). length (num_b j)) many) in
-            ap (λ (j : ℕ). told (j + length (flat_map bytes_b (take n d.laid.table)) + 1, length (get_or d.laid.table n []))) spelt
+        pub name_untitled : {e : Refusal} → Titles s l.names at (Err e) → name_asked (Err e) ≡ get_structure_name s k
+        name_untitled y = told_case λ a stands w. absurd (y.is a stands whole)
 
-        pub name_is : {v b n : ℕ} {z : Named} → r ≡ T.By n → m ≡ Number v b → NameAt s b n z → name_asked z ≡ get_structure_name s k
-        name_is {v} {b} {n} q₁ q₂ f = told_is λ a stands w.
-            let begin : b ≡ d.laid.begin = ap (λ (c : Cur). c.at) (same_cur (sym (read_is (reads g₂) nothing q₂) ∙ d.laid.counted)) in
-            f.is l.names d.laid.table d.laid.behind (ap (λ (j : ℕ). read_names l.names [] s (cursor j 0 nothing)) begin ∙ d.laid.named) (y.known a stands n q₁) ∙ from_is n q₂ ∙ sym (w ∙ ap (λ (z : Titled). told (titled_by whole z)) q₁)
+        pub name_other : Titles s l.names at (Ok None) → name_asked (Ok (record { start = 0; length = 0 })) ≡ get_structure_name s k
+        name_other y = told_case λ a stands w. sym (w ∙ ap told (y.is a stands whole))
+
+        module _ {n : ℕ} (y : Titles s l.names at (Ok (Some n))) where
+          pub name_unread : {e : Refusal} → Gives num s 0 (Err e) → name_asked (Err e) ≡ get_structure_name s k
+          name_unread g₂ = never (sym (g₂.is 0 nothing) ∙ d.laid.counted)
+
+          module _ {v b : ℕ} (g₂ : Gives num s 0 (Ok (v, b))) where
+            begin : b ≡ d.laid.begin
+            begin = ap (λ (c : Cur). c.at) (same_cur (sym (g₂.is 0 nothing) ∙ d.laid.counted))
+
+            -- behind the count, the names before it and its own length
+            from_is : place_of b n d.laid.table ≡ told (titled_by whole (Some n))
+            unfolding name_from
+            from_is =
+                let t = read_table l.names [] s _ d.laid.named in
+                let many : length d.laid.table ≡ l.names = ap length t.is ∙ t.many in
+                let spelt : b ≡ length (num_b (length d.laid.table)) = begin ∙ sym (num_reading s _ _ _ d.laid.counted).long ∙ omega (arith, ap (λ (j : ℕ). length (num_b j)) many) in
+                ap (λ (j : ℕ). told (j + length (flat_map bytes_b (take n d.laid.table)) + 1, length (get_or d.laid.table n []))) spelt
+
+            pub name_is : {z : Result Part Refusal} → NameAt s b n z → name_asked z ≡ get_structure_name s k
+            name_is f = told_case λ a stands w.
+                f.is l.names d.laid.table d.laid.behind (ap (λ (j : ℕ). read_names l.names [] s (cursor j 0 nothing)) begin ∙ d.laid.named) (y.known a stands) ∙ from_is ∙ sym (w ∙ ap told (y.is a stands whole))
+
+pub ruleset names = (name_refused, name_past, name_lost, name_untitled, name_other, name_unread, name_is)
 
 -- THE PART OF THE TREE
 
-module _ (s : List ℕ) (k : ℕ) {r : Named} (g : name_asked r ≡ get_structure_name s k) where
-  pub part_none : {x : List ℕ} {n p : ℕ} → r ≡ N.Refused n p → x ≡ part s 0 0 → x ≡ part_told s (get_structure_name s k)
-  unfolding part_told name_asked
-  part_none e w = w ∙ sym (ap (part_told s) (sym g ∙ ap name_asked e))
-
-  pub part_is : {x : List ℕ} {from n : ℕ} → r ≡ N.At from n → x ≡ part s from n → x ≡ part_told s (get_structure_name s k)
-  unfolding part_told name_asked
-  part_is e w = w ∙ sym (ap (part_told s) (sym g ∙ ap name_asked e))
+pub part_is : (s : List ℕ) (k : ℕ) (r : Result Part Refusal) → name_asked r ≡ get_structure_name s k → {p : Part} → p ≡ result_unwrap_or r (record { start = 0; length = 0 }) → part s p.start p.length ≡ part_told s (get_structure_name s k)
+unfolding part_told
+part_is s k (Ok p) g e = rw e (ap (part_told s) g)
+part_is s k (Err f) g e = rw e (ap (part_told s) g)

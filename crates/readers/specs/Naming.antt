@@ -1,5 +1,5 @@
 -- get_structure_name, in the words of the definitions.
-use Rattle.std.specs.Prelude.{ℕ, ◌+◌, ◌≤◌, ◌<◌, ◌≡◌, length, get_or, take}
+use Rattle.std.specs.Prelude.{ℕ, ◌+◌, ◌≤◌, ◌<◌, ◌≡◌, length, get_or, take, Option, Some, None, Result, IfSome, IfOk, IsOkAnd}
 use mathlib.Core.List.{List, [], flat_map}
 use Rattle.std.proofs.Math.Option.{some}
 use Rattle.std.proofs.Math.ListN.{get_elem?}
@@ -10,16 +10,12 @@ use Rattle.penne.specs.Write.{bytes_b}
 use Rattle.penne.specs.Scoper.{Asked, told, untold, name_from, structure_name, get_structure_name}
 use Rattle.fields.specs.Answers.{cursor}
 use Rattle.name_table.specs.Names.{part}
-use Rattle.tree.specs.declared.script.Laid.{Laid}
-use Rattle.tree.specs.declared.script.Laid.TheVariants as L
-use Rattle.readers.specs.declared.Named.{Named}
-use Rattle.readers.specs.declared.Named.TheVariants as N
-use Rattle.readers.specs.declared.find.Titled.{Titled}
-use Rattle.readers.specs.declared.find.Titled.TheVariants as T
+use Rattle.fields.specs.declared.refusal.Refusal.{Refusal}
+use Rattle.readers.specs.declared.Part.{Part}
+use Rattle.readers.specs.Asking.{asked}
 
-unfoldable pub name_asked : Named → Asked (ℕ × ℕ)
-name_asked (N.At from n) = told (from, n)
-name_asked (N.Refused n p) = untold n p
+abbrev pub name_asked : Result Part Refusal → Asked (ℕ × ℕ)
+name_asked = asked (λ p. (p.start, p.length))
 
 -- "the name as a part of the tree that was lent, empty for a refusal or another kind", by the offset and length that are told
 unfoldable pub part_told : List ℕ → Asked (ℕ × ℕ) → List ℕ
@@ -30,11 +26,6 @@ part_told s (untold n p) = []
 abbrev pub TellsTheName : Type 0
 TellsTheName = (s : List ℕ) (k : ℕ) (t : Tree Spot) (c : Cur) (f : ℕ) (p : Spot) (i : Ident Spot) (ms : List (Param Spot)) (y : Maybe Spot (Ty Spot)) → length s ≤ 65535 → decode answered s ≡ got t c → get_elem? t.decls k ≡ some (structure f p i ms y) → part_told s (get_structure_name s k) ≡ get_or t.names i.name []
 
--- a refusal passed on
-abbrev pub unnamed_by : Laid → Named
-unnamed_by (L.Out l) = N.At 0 0
-unnamed_by (L.Refused n p) = N.Refused n p
-
 -- declaration d stands at `at` in a tree with so many names
 pub record Stands (s : List ℕ) (names at : ℕ) (d : Decl Spot) : Type 0 where
   pub counts : Counts
@@ -42,19 +33,19 @@ pub record Stands (s : List ℕ) (names at : ℕ) (d : Decl Spot) : Type 0 where
   pub read : read_decl s (cursor at names counts) ≡ got d next
 
 -- whatever declarations are read at `at`, where so much is counted: the one behind n others stands at r
-pub record NthDeclaration (s : List ℕ) (names : ℕ) (k : Counts) (at n r : ℕ) : Type 0 where
-  pub is : (count : ℕ) (ds : List (Decl Spot)) (c : Cur) (d : Decl Spot) → many read_decl count s (cursor at names k) ≡ got ds c → get_elem? ds n ≡ some d → Stands s names r d
+pub record NthDeclaration (s : List ℕ) (names : ℕ) (k : Counts) (at n : ℕ) (r : Result ℕ Refusal) : Type 0 where
+  pub is : (count : ℕ) (ds : List (Decl Spot)) (c : Cur) (d : Decl Spot) → many read_decl count s (cursor at names k) ≡ got ds c → get_elem? ds n ≡ some d → IsOkAnd r (λ b. Stands s names b d)
 
 -- where the name of a structure stands, and its length, by its name number
-unfoldable pub titled_by : Tree Spot → Titled → ℕ × ℕ
-titled_by t (T.By n) = (name_from t.names n, length (get_or t.names n []))
-titled_by t T.Not = (0, 0)
+abbrev pub titled_by : Tree Spot → Option ℕ → ℕ × ℕ
+titled_by t (Some n) = (name_from t.names n, length (get_or t.names n []))
+titled_by t None = (0, 0)
 
 -- whatever declaration stands at `at`, r is its name number, where it is a structure
-pub record Titles (s : List ℕ) (names at : ℕ) (r : Titled) : Type 0 where
-  pub is : (d : Decl Spot) → Stands s names at d → (t : Tree Spot) → structure_name t d ≡ titled_by t r
-  pub known : (d : Decl Spot) → Stands s names at d → (n : ℕ) → r ≡ T.By n → n < names
+pub record Titles (s : List ℕ) (names at : ℕ) (r : Result (Option ℕ) Refusal) : Type 0 where
+  pub is : (d : Decl Spot) → Stands s names at d → (t : Tree Spot) → IsOkAnd r (λ o. structure_name t d ≡ titled_by t o)
+  pub known : (d : Decl Spot) → Stands s names at d → IfOk r (λ o. IfSome o (λ n. n < names))
 
 -- whatever table of names is read at `at`, r says where the bytes of its name n stand
-pub record NameAt (s : List ℕ) (at n : ℕ) (r : Named) : Type 0 where
+pub record NameAt (s : List ℕ) (at n : ℕ) (r : Result Part Refusal) : Type 0 where
   pub is : (count : ℕ) (names : List (List ℕ)) (c : Cur) → read_names count [] s (cursor at 0 nothing) ≡ got names c → n < count → name_asked r ≡ told (at + length (flat_map bytes_b (take n names)) + 1, length (get_or names n []))

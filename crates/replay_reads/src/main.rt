@@ -4,10 +4,10 @@
 // Prints a line for each case that differs, then how many cases there were and how many differed.
 #![tactic(auto)]
 
+use fields::refusal::Refusal;
 use input::read_full;
 use name_table::bytes_at;
 use std::io;
-use tree::Verdict;
 
 // Where a line is read, what it says so far, and what was found.
 #[derive(Clone, Copy)]
@@ -23,150 +23,8 @@ struct Replay {
     differ: u32,
 }
 
-fn with_digit(n: u32, byte: u8) -> u32 {
-    if byte < 48 {
-        return n;
-    }
-    if 57 < byte {
-        return n;
-    }
-    if n < 100000000 {
-        n * 10 + ((byte - 48) as u32)
-    } else {
-        n
-    }
-}
-
-fn digit(byte: u8) -> u8 {
-    if byte < 48 {
-        return 0;
-    }
-    if byte < 58 {
-        return byte - 48;
-    }
-    if byte < 97 {
-        return 0;
-    }
-    if byte < 103 { byte - 87 } else { 0 }
-}
-
-// Half a byte of the tree, the high half first.
-fn with_half(r: Replay, tree: &mut [u8], byte: u8) -> Replay {
-    let mut next = r;
-    if next.half {
-        let at = next.length;
-        if at < tree.len() {
-            tree[at] = r.high % 16 * 16 + digit(byte) % 16;
-            next.length = at + 1;
-        }
-        next.half = false;
-    } else {
-        next.high = digit(byte);
-        next.half = true;
-    }
-    next
-}
-
-fn number_of(verdict: Verdict) -> u32 {
-    match verdict {
-        Verdict::Passes => 0,
-        Verdict::Refused(number, _) => number,
-    }
-}
-
-fn place_of(verdict: Verdict) -> usize {
-    match verdict {
-        Verdict::Passes => 0,
-        Verdict::Refused(_, place) => place,
-    }
-}
-
-fn print_case(
-    rt: &impl Print,
-    number: u32,
-    name: &str,
-    wanted: u32,
-    verdict: Verdict,
-) -> io::Result<()> {
-    let read = number_of(verdict);
-    let place = place_of(verdict);
-    println!(rt; "case {number}{name}{wanted}, read as {read} at {place}")
-}
-
-fn read(tree: &[u8], answered: bool) -> Verdict {
-    if answered {
-        return tree::answered(tree);
-    }
-    tree::incoming(tree)
-}
-
-// The end of a line: the tree is read, and the verdict compared.
-fn compared(rt: &impl Print, r: Replay, tree: &[u8]) -> io::Result<Replay> {
-    let mut next = r;
-    next.cases = memory::words::next(r.cases);
-    next.field = 0;
-    next.number = 0;
-    next.place = 0;
-    next.length = 0;
-    next.half = false;
-    next.answered = false;
-    let verdict = read(bytes_at(tree, 0, r.length), r.answered);
-    if number_of(verdict) != r.number {
-        print_case(rt, next.cases, ": wanted number ", r.number, verdict)?;
-        next.differ = memory::words::next(r.differ);
-        return Ok(next);
-    }
-    if place_of(verdict) != r.place as usize {
-        print_case(rt, next.cases, ": wanted place ", r.place, verdict)?;
-        next.differ = memory::words::next(r.differ);
-    }
-    Ok(next)
-}
-
-// One byte of the text.
-fn step(rt: &impl Print, r: Replay, tree: &mut [u8], byte: u8) -> io::Result<Replay> {
-    if byte == 10 {
-        return compared(rt, r, tree);
-    }
-    let mut next = r;
-    if byte == 32 {
-        next.field = memory::words::next(r.field);
-        return Ok(next);
-    }
-    if byte == 97 {
-        if r.field == 0 {
-            next.answered = true;
-            return Ok(next);
-        }
-    }
-    if r.field == 0 {
-        next.number = with_digit(r.number, byte);
-        return Ok(next);
-    }
-    if r.field == 1 {
-        next.place = with_digit(r.place, byte);
-        return Ok(next);
-    }
-    if byte == 45 {
-        return Ok(next);
-    }
-    Ok(with_half(next, tree, byte))
-}
-
-fn chunk(rt: &impl Print, r: Replay, tree: &mut [u8], text: &[u8]) -> io::Result<Replay> {
-    let mut next = r;
-    let mut at = 0usize;
-    while at < text.len() {
-        next = step(rt, next, tree, text[at])?;
-        at += 1;
-    }
-    Ok(next)
-}
-
-fn main(rt: HostRuntime) -> io::Result<()> {
-    let mut tree = [0u8; 65536];
-    let mut text = [0u8; 4096];
-    let mut r = Replay {
+impl Replay {
+    const START: Replay = Replay {
         field: 0,
         number: 0,
         place: 0,
@@ -177,14 +35,122 @@ fn main(rt: HostRuntime) -> io::Result<()> {
         cases: 0,
         differ: 0,
     };
-    let mut chunks = 0u32;
-    while chunks < 100000 {
+}
+
+fn with_digit(n: u32, byte: u8) -> u32 {
+    match byte {
+        b'0'..=b'9' if n < 100000000 => n * 10 + u32::from(byte - b'0'),
+        _ => n,
+    }
+}
+
+fn digit(byte: u8) -> u8 {
+    match byte {
+        b'0'..=b'9' => byte - b'0',
+        b'a'..=b'f' => byte - b'a' + 10,
+        _ => 0,
+    }
+}
+
+// Half a byte of the tree, the high half first.
+fn with_half(r: Replay, tree: &mut [u8], byte: u8) -> Replay {
+    if !r.half {
+        return Replay {
+            high: digit(byte),
+            half: true,
+            ..r
+        };
+    }
+    let mut length = r.length;
+    if length < tree.len() {
+        tree[length] = r.high % 16 * 16 + digit(byte) % 16;
+        length += 1;
+    }
+    Replay {
+        length,
+        half: false,
+        ..r
+    }
+}
+
+// A refusal's number and its place, both 0 where the tree passes.
+fn told(verdict: Result<(), Refusal>) -> (u32, usize) {
+    match verdict {
+        Ok(()) => (0, 0),
+        Err(Refusal { reason, place }) => (reason.number(), place),
+    }
+}
+
+fn read(tree: &[u8], answered: bool) -> Result<(), Refusal> {
+    if answered {
+        tree::answered(tree)
+    } else {
+        tree::incoming(tree)
+    }
+}
+
+// The end of a line: the tree is read, and the verdict compared.
+fn compared(rt: &impl Print, r: Replay, tree: &[u8]) -> io::Result<Replay> {
+    let cases = r.cases.saturating_add(1);
+    let (number, place) = told(read(bytes_at(tree, 0, r.length), r.answered));
+    let mut differ = r.differ;
+    if number != r.number {
+        println!(rt;
+            "case {cases}: wanted number {}, read as {number} at {place}",
+            r.number
+        )?;
+        differ = differ.saturating_add(1);
+    } else if place != r.place as usize {
+        println!(rt;
+            "case {cases}: wanted place {}, read as {number} at {place}",
+            r.place
+        )?;
+        differ = differ.saturating_add(1);
+    }
+    Ok(Replay {
+        cases,
+        differ,
+        ..Replay::START
+    })
+}
+
+// One byte of the text.
+fn step(rt: &impl Print, r: Replay, tree: &mut [u8], byte: u8) -> io::Result<Replay> {
+    let next = match (byte, r.field) {
+        (b'\n', _) => compared(rt, r, tree)?,
+        (b' ', _) => Replay {
+            field: r.field.saturating_add(1),
+            ..r
+        },
+        (b'a', 0) => Replay {
+            answered: true,
+            ..r
+        },
+        (_, 0) => Replay {
+            number: with_digit(r.number, byte),
+            ..r
+        },
+        (_, 1) => Replay {
+            place: with_digit(r.place, byte),
+            ..r
+        },
+        (b'-', _) => r,
+        _ => with_half(r, tree, byte),
+    };
+    Ok(next)
+}
+
+fn main(rt: HostRuntime) -> io::Result<()> {
+    let mut tree = [0; 65536];
+    let mut text = [0; 4096];
+    let mut r = Replay::START;
+    for _ in 0..100000u32 {
         let count = read_full(&mut rt.stdin(), &mut text)?;
-        r = chunk(&rt, r, &mut tree, &text[..count])?;
+        for &byte in &text[..count] {
+            r = step(&rt, r, &mut tree, byte)?;
+        }
         if count < 4096 {
-            chunks = 100000;
-        } else {
-            chunks += 1;
+            break;
         }
     }
     println!(rt; "{} cases, {} differ", r.cases, r.differ)

@@ -7,6 +7,7 @@ use mathlib.Core.List.{List, [], ◌∷◌, ◌++◌, map, flat_map, map-append}
 use mathlib.Core.Option.{some}
 use lib.Dec.{ltb, leb}
 use lib.ListN.{length, length-map, get_or, take, get_elem?}
+use Rattle.std.specs.Prelude.{Result, Ok, Err}
 use Rattle.penne.specs.Reader.{Cur, Got, got, refused}
 use Rattle.penne.specs.Read.{decode, incoming}
 use Rattle.penne.specs.Write.{encode}
@@ -26,7 +27,8 @@ use Rattle.penne.proofs.Incoming.{same_functions, promised}
 use Rattle.penne.proofs.IdsGiven.{ids_few, ids_given as counted_ids}
 use Rattle.penne.proofs.PlaceRule.{place_rule}
 use Rattle.scoper.specs.declared.Scoped.{Scoped}
-use Rattle.scoper.specs.declared.Scoped.TheVariants as S
+use Rattle.fields.specs.declared.refusal.Refusal.{Refusal}
+use Rattle.fields.specs.Answers.{row_of}
 use Rattle.scoper.specs.Scoping.{outcome_of, scoped_by}
 use Rattle.scoper.specs.Meaning.{Call, answer_of, Answered, Answers, RefusedBy, Refusals, Kept, InFunction, SkipLists, IdsGiven, tells, PlacesDoNotMatter}
 use Rattle.scoper.proofs.Unique.{list_is}
@@ -69,13 +71,14 @@ answer_of_lem s m n w {x} {rs} e = go (ltb 65535 (length s)) (ltb w 16384) e
 -- THE BUFFERS
 
 module _ (c : Call) where
-  answered : {bytes records : ℕ} (a : Answer) → scoped_answer c.tree (length c.answer) (length c.list) (length c.work) ≡ a → S.Answer bytes records ≡ scoped_by a → outcome_of (S.Answer bytes records) c.answer' c.list' c.work' ≡ outcome (length c.answer) (length c.list) (length c.work) a → Answered c bytes records
+  answered : {bytes records : ℕ} (a : Answer) → scoped_answer c.tree (length c.answer) (length c.list) (length c.work) ≡ a → Ok (record { length = bytes; records = records }) ≡ scoped_by a → outcome_of (Ok (record { length = bytes; records = records })) c.answer' c.list' c.work' ≡ outcome (length c.answer) (length c.list) (length c.work) a → Answered c bytes records
   unfolding scoped_by outcome outcome_of
   answered (refusal k p) e f g = absurd (let z : ◌≡◌ {A = ℕ} 0 1 = cc in omega arith)
   answered {bytes} {records} (answer x rs) e f g =
       let a = answer_of_lem c.tree (length c.answer) (length c.list) (length c.work) e in
-      let b : bytes ≡ length x = cc in
-      let k : records ≡ length rs = cc in
+      let s : ◌≡◌ {A = Scoped} (record { length = bytes; records = records }) (record { length = length x; records = length rs }) = cc in
+      let b : bytes ≡ length x = ap (λ (u : Scoped). u.length) s in
+      let k : records ≡ length rs = ap (λ (u : Scoped). u.records) s in
       record {
         script = a.script;
         behind = a.behind;
@@ -88,18 +91,18 @@ module _ (c : Call) where
         work_is = ap (λ (q : Outcome). q.work) g;
       }
 
-  zeroed : {number place : ℕ} (a : Answer) → answer_of c ≡ a → S.Refused number place ≡ scoped_by a → outcome_of (S.Refused number place) c.answer' c.list' c.work' ≡ outcome (length c.answer) (length c.list) (length c.work) a → RefusedBy c number place
+  zeroed : {x : Refusal} (a : Answer) → answer_of c ≡ a → Err x ≡ scoped_by a → outcome_of (Err x) c.answer' c.list' c.work' ≡ outcome (length c.answer) (length c.list) (length c.work) a → RefusedBy c (row_of x.reason) x.place
   unfolding scoped_by outcome outcome_of
   zeroed (answer x rs) e f g = absurd (let z : ◌≡◌ {A = ℕ} 0 1 = cc in omega arith)
-  zeroed {number} {place} (refusal k p) e f g = record { by = e ∙ (let z : refusal k p ≡ refusal number place = cc in z); answer_is = ap (λ (q : Outcome). q.tree) g; list_is = ap (λ (q : Outcome). q.list) g; work_is = ap (λ (q : Outcome). q.work) g }
+  zeroed (refusal k p) e f g = record { by = e ∙ sym (λ i. refusal (g i).refusal (g i).place); answer_is = ap (λ (q : Outcome). q.tree) g; list_is = ap (λ (q : Outcome). q.list) g; work_is = ap (λ (q : Outcome). q.work) g }
 
 pub answers : Answers
 unfolding scoped
-answers c bytes records e = answered c _ refl (sym e ∙ c.meets.told) (ap (λ (r : Scoped). outcome_of r c.answer' c.list' c.work') (sym e) ∙ c.meets.outcome)
+answers c bytes records e = answered c _ refl (sym e ∙ c.meets.told) (ap (λ (r : Result Scoped Refusal). outcome_of r c.answer' c.list' c.work') (sym e) ∙ c.meets.outcome)
 
 pub refusals : Refusals
 unfolding scoped
-refusals c number place e = zeroed c _ refl (sym e ∙ c.meets.told) (ap (λ (r : Scoped). outcome_of r c.answer' c.list' c.work') (sym e) ∙ c.meets.outcome)
+refusals c x e = zeroed c _ refl (sym e ∙ c.meets.told) (ap (λ (r : Result Scoped Refusal). outcome_of r c.answer' c.list' c.work') (sym e) ∙ c.meets.outcome)
 
 -- THE PARTS OF THE LIST
 
@@ -220,10 +223,10 @@ ids_given c bytes records a = record { counted = counted_ids a.script.names a.sc
 -- PLACES
 
 -- what is told, read off all that is left
-pub tells_is : (r : Scoped) (o l w : List ℕ) {q : Outcome} → outcome_of r o l w ≡ q → tells r ≡ (q.refusal, q.place, q.tree_length, q.records)
+pub tells_is : (r : Result Scoped Refusal) (o l w : List ℕ) {q : Outcome} → outcome_of r o l w ≡ q → tells r ≡ (q.refusal, q.place, q.tree_length, q.records)
 unfolding tells outcome_of
-tells_is (S.Answer n k) o l w e = ap (λ (q : Outcome). (q.refusal, q.place, q.tree_length, q.records)) e
-tells_is (S.Refused n p) o l w e = ap (λ (q : Outcome). (q.refusal, q.place, q.tree_length, q.records)) e
+tells_is (Ok s) o l w e = ap (λ (q : Outcome). (q.refusal, q.place, q.tree_length, q.records)) e
+tells_is (Err x) o l w e = ap (λ (q : Outcome). (q.refusal, q.place, q.tree_length, q.records)) e
 
 pub places_do_not_matter : PlacesDoNotMatter
 places_do_not_matter c d l h =

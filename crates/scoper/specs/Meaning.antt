@@ -1,5 +1,5 @@
 -- What the promise of `analyze` means for whoever calls it, said of what was lent. All of it is proved of every call that meets the promise, and `analyze` always meets it: proofs/Meaning.
-use Rattle.std.specs.Prelude.{ℕ, ◌+◌, true, false, ◌≡◌, length, get_or, take}
+use Rattle.std.specs.Prelude.{ℕ, ◌+◌, true, false, ◌≡◌, length, get_or, take, Result, Ok, Err}
 use mathlib.Core.List.{List, [], map, flat_map}
 use Rattle.std.proofs.Math.Option.{some}
 use Rattle.std.proofs.Math.ListN.{get_elem?}
@@ -16,7 +16,8 @@ use Rattle.penne.specs.Order.{Rising}
 use Rattle.penne.specs.Ids.{ids_decls, ids_labels_decls, Given}
 use Rattle.penne.specs.PlaceRule.{DifferInPlaces, SameAnswers}
 use Rattle.scoper.specs.declared.Scoped.{Scoped}
-use Rattle.scoper.specs.declared.Scoped.TheVariants.{Answer, Refused}
+use Rattle.fields.specs.declared.refusal.Refusal.{Refusal}
+use Rattle.fields.specs.Answers.{row_of}
 use Rattle.scoper.specs.Scoping.{Scopes}
 
 -- a call that meets the promise: its tree, what it was lent, what it told, and what was lent as it stood afterwards
@@ -25,7 +26,7 @@ pub record Call : Type 0 where
   pub answer : List ℕ
   pub list : List ℕ
   pub work : List ℕ
-  pub told : Scoped
+  pub told : Result Scoped Refusal
   pub answer' : List ℕ
   pub list' : List ℕ
   pub work' : List ℕ
@@ -50,7 +51,7 @@ pub record Answered (c : Call) (bytes records : ℕ) : Type 0 where
   pub work_is : c.work' ≡ padded (length c.work) []
 
 abbrev pub Answers : Type 0
-Answers = (c : Call) (bytes records : ℕ) → c.told ≡ Answer bytes records → Answered c bytes records
+Answers = (c : Call) (bytes records : ℕ) → c.told ≡ Ok (record { length = bytes; records = records }) → Answered c bytes records
 
 -- a refusal: number and place are the table's, and "after a refusal answer, list and work memory hold only zeros"
 pub record RefusedBy (c : Call) (number place : ℕ) : Type 0 where
@@ -60,7 +61,7 @@ pub record RefusedBy (c : Call) (number place : ℕ) : Type 0 where
   pub work_is : c.work' ≡ padded (length c.work) []
 
 abbrev pub Refusals : Type 0
-Refusals = (c : Call) (number place : ℕ) → c.told ≡ Refused number place → RefusedBy c number place
+Refusals = (c : Call) (e : Refusal) → c.told ≡ Err e → RefusedBy c (row_of e.reason) e.place
 
 -- THE SKIP LIST, AND WHAT STANDS IN THE ANSWER (demand 3, and the agreement)
 
@@ -120,9 +121,9 @@ IdsGiven = (c : Call) (bytes records : ℕ) → (a : Answered c bytes records) �
 -- THE PLACE RULE: "Two trees that differ only in place numbers of equal byte count get the same refusals, lengths, ids, depths and list."
 
 -- the refusal's number (0: none) and place, the answer's length in bytes and the list's in records
-unfoldable pub tells : Scoped → ℕ × ℕ × ℕ × ℕ
-tells (Answer bytes records) = (0, 0, bytes, records)
-tells (Refused number place) = (number, place, 0, 0)
+unfoldable pub tells : Result Scoped Refusal → ℕ × ℕ × ℕ × ℕ
+tells (Ok s) = (0, 0, s.length, s.records)
+tells (Err e) = (row_of e.reason, e.place, 0, 0)
 
 -- two calls that were lent equally much
 pub record LentAlike (c d : Call) : Type 0 where

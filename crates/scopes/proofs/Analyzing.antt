@@ -19,8 +19,7 @@ use Rattle.penne.specs.Containers.{Containment}
 use Rattle.penne.proofs.Searching.{first_hit, first_miss, is_in_here, is_in_past}
 use Rattle.scopes.specs.declared.scope.Scope.{Scope}
 use Rattle.scopes.specs.declared.scope.Local.{Local}
-use Rattle.scopes.specs.declared.scope.Found.{Found}
-use Rattle.scopes.specs.declared.scope.Found.TheVariants.{At, Nothing}
+use Rattle.std.specs.Prelude as Rust
 use Rattle.scopes.specs.declared.pruning.Fate.{Fate}
 use Rattle.scopes.specs.declared.pruning.Fate.TheVariants.{Standing, Poisoned, Pruned}
 use Rattle.scopes.specs.Table.{rows, words, heads, label_note, Nth, here, there, Stands, Known, Label, Noted, unnoted, noted, unresolved, Tells, stands, poisons, prunes, Holds, Blank, Keeps}
@@ -227,11 +226,11 @@ module _ (a : Analyzer Spot) (n : ℕ) where
 -- BY WHAT A CALL ANSWERED
 
 module _ {n : ℕ} {ls : List (Ident Spot)} where
-  pub found_none : {r : Found} → Finds n ls r → r ≡ Nothing → first_named n ls ≡ none
+  pub found_none : {r : Rust.Option ℕ} → Finds n ls r → r ≡ Rust.None → first_named n ls ≡ none
   found_none (nothing e) q = e
   found_none (found at e) q = absurd (let z : ◌≡◌ {A = ℕ} 0 1 = cc in omega arith)
 
-  pub found_at : {r : Found} {k : ℕ} → Finds n ls r → r ≡ At k → (i : Ident Spot) × Nth k i ls × (first_named n ls ≡ some i)
+  pub found_at : {r : Rust.Option ℕ} {k : ℕ} → Finds n ls r → r ≡ Rust.Some k → (i : Ident Spot) × Nth k i ls × (first_named n ls ≡ some i)
   found_at (nothing e) q = absurd (let z : ◌≡◌ {A = ℕ} 0 1 = cc in omega arith)
   found_at {k = k} (found {k = m} {i = i} at e) q = let z : m ≡ k = cc in (i, rw z at at, e)
 

@@ -2,6 +2,7 @@
 use mathlib.Core.Path.{◌≡◌, refl, sym, subst, ◌∙◌}
 use mathlib.Core.Bool.{Bool, true, false}
 use mathlib.Core.List.{List}
+use mathlib.Core.Logic.{◌⊎◌, inl, inr}
 use mathlib.Core.Option.{none}
 use Prim.Native.Nat.{ℕ, suc, ◌+◌, ◌-◌, ◌≤◌, ◌<◌}
 use native.Mathlib.Numerals.{add-two}
@@ -103,11 +104,9 @@ unfolding fate_by
 told l = prunes l
 
 module _ {k note row place : ℕ} {w : List ℕ} where
-  pub prune_past : rows ≤ k → PrunesOne k note row place w w
-  prune_past z = record { kept = kept_all; holds = λ goto h n. absurd (omega (arith, low h n)) }
-
-  pub prune_high : rows ≤ row → PrunesOne k note row place w w
-  prune_high z = record { kept = kept_all; holds = λ goto h n l. absurd (omega (arith, l.low)) }
+  pub prune_out : rows ≤ k ⊎ (k < rows × rows ≤ row) → PrunesOne k note row place w w
+  prune_out (inl z) = record { kept = kept_all; holds = λ goto h n. absurd (omega (arith, low h n)) }
+  prune_out (inr (y, z)) = record { kept = kept_all; holds = λ goto h n l. absurd (omega (arith, l.low)) }
 
   pub prune_early : {id : ℕ} → id ≡ cell w local_id k → id < note → PrunesOne k note row place w w
   unfolding with_pruned prune_unless
@@ -156,3 +155,5 @@ module _ {k note row place : ℕ} {w : List ℕ} where
           let number : cell w' local_fate k ≡ suc (suc row) = second_put.others _ (omega arith) ∙ first_put.there (omega arith) ∙ add-two row in
           let goto : cell w' local_goto k ≡ c.location_of_goto.number = second_put.there (omega (arith, first_put.long)) ∙ b in
           rw (number, goto, pruned_first c p none_yet) (told (label_kept (λ j y. others j (omega arith) (omega arith)) a))
+
+pub ruleset fate_of_laws = (become_past, become_standing, become_poisoned, become_pruned)

@@ -7,12 +7,12 @@ use native.Mathlib.Decide.{ℕ_discrete}
 use native.Mathlib.Omega.{arith}
 use lib.ListN.{length, get_or, set, take, length-append, length-take}
 use lib.Seq.{take_all, length-take-le}
+use Rattle.std.specs.Prelude.{Some, None}
 use Rattle.penne.specs.Tree.{Spot, Ident}
 use Rattle.penne.specs.Find.{first, first_named, is_in}
 use Rattle.penne.specs.Pruning.{Prunings, no_prunings, fate, fate_by}
 use Rattle.scopes.specs.declared.scope.Scope.{Scope}
 use Rattle.scopes.specs.declared.scope.Local.{Local}
-use Rattle.scopes.specs.declared.scope.Found.TheVariants.{At, Nothing}
 use Rattle.scopes.specs.Table.{rows, words, local_name, local_place, local_from, local_id, local_fate, heads, cell, Nth, Stands, entry, head_of, Heads, unnoted, unresolved, Holds, Keeps}
 use Rattle.scopes.specs.Calls.{Begins, Opens, Closes, Declares, Finds, nothing, found, Searches, LocalAt, Enters, Leads, Vacates}
 use Rattle.scopes.proofs.Lists.{nth_low, nth_last, nth_is, take_more}
@@ -62,16 +62,16 @@ opened = record { holds = λ h. recounted h h.counted h.counted }
 -- FINDING
 
 module _ {s : Scope} {w : List ℕ} {n : ℕ} where
-  pub find_high : rows ≤ n → Searches s w n Nothing
+  pub find_high : rows ≤ n → Searches s w n None
   find_high l = record { finds = λ {ls} h. nothing (none_named n ls (λ k i at e. omega (arith, h.known.names at))) }
 
-  pub find_none : {head : ℕ} → n < rows → head ≡ get_or w (heads + n) 0 → head ≡ 0 → Searches s w n Nothing
+  pub find_none : {head : ℕ} → n < rows → head ≡ get_or w (heads + n) 0 → head ≡ 0 → Searches s w n None
   find_none l e z = record { finds = λ {ls} h. nothing (head_none n ls (sym (h.head.at n l) ∙ sym e ∙ z)) }
 
-  pub find_at : {head : ℕ} → n < rows → head ≡ get_or w (heads + n) 0 → (head ≡ 0 → ⊥) → Searches s w n (At (head - 1))
+  pub find_at : {head : ℕ} → n < rows → head ≡ get_or w (heads + n) 0 → (head ≡ 0 → ⊥) → Searches s w n (Some (head - 1))
   find_at {head} l e z = record { finds = λ {ls} h. go ls (head_some n ls (head - 1) (sym (h.head.at n l) ∙ sym e ∙ omega arith)) }
     where
-      go : (ls : List (Ident Spot)) → (i : Ident Spot) × Nth (head - 1) i ls × (first_named n ls ≡ some i) → Finds n ls (At (head - 1))
+      go : (ls : List (Ident Spot)) → (i : Ident Spot) × Nth (head - 1) i ls × (first_named n ls ≡ some i) → Finds n ls (Some (head - 1))
       go ls (i, at, e) = found at e
 
 pub read_past : {w : List ℕ} {k : ℕ} {r : Local} → rows ≤ k → LocalAt w k r
@@ -305,3 +305,7 @@ closed {s} {outer} {k} c l = record {
       let e : k ≡ outer.count = omega (arith, c.over (omega (arith, h.counted)), h.counted) in
       recounted (rw e at (c.holds refl h)) (sym (length-take-le outer.count ls o)) refl;
 }
+
+pub ruleset find_laws = (find_high, find_none, find_at)
+
+pub ruleset lead_laws = (lead_past, lead_high, lead_later, lead_first)

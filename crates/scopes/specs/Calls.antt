@@ -1,13 +1,11 @@
 -- What the calls promise: whatever the scope and the table stood for before, they stand afterwards for what the definitions make of it.
-use Rattle.std.specs.Prelude.{ℕ, ◌+◌, ◌%◌, ◌≤◌, ◌<◌, ◌≡◌, List, [], ◌∷◌, ◌++◌, length, get_or, take}
+use Rattle.std.specs.Prelude.{ℕ, ◌+◌, ◌%◌, ◌≤◌, ◌<◌, ◌≡◌, List, [], ◌∷◌, ◌++◌, length, get_or, take, Option, Some, None}
 use Rattle.std.proofs.Math.Option.{none, some}
 use Rattle.penne.specs.Tree.{Spot, Ident}
 use Rattle.penne.specs.Find.{first_named}
 use Rattle.penne.specs.Pruning.{Prunings, no_prunings}
 use Rattle.scopes.specs.declared.scope.Scope.{Scope}
 use Rattle.scopes.specs.declared.scope.Local.{Local}
-use Rattle.scopes.specs.declared.scope.Found.{Found}
-use Rattle.scopes.specs.declared.scope.Found.TheVariants.{At, Nothing}
 use Rattle.scopes.specs.Table.{words, rows, local_name, local_fate, heads, cell, Nth, Stands, entry, Holds, Blank, Keeps}
 
 -- nothing is in scope; the first id is any but 0
@@ -32,12 +30,12 @@ pub record Declares (s : Scope) (l : Local) (w : List ℕ) (r : Scope) (w' : Lis
       → Stands l i → i.name < rows → i.id ≡ next → Holds r w' (ls ++ (i ∷ [])) layer p (next + 1)
 
 -- what the search for a name found
-pub data Finds (n : ℕ) (ls : List (Ident Spot)) : Found → Type 0 where
-  nothing : first_named n ls ≡ none → Finds n ls Nothing
-  found : {k : ℕ} {i : Ident Spot} → Nth k i ls → first_named n ls ≡ some i → Finds n ls (At k)
+pub data Finds (n : ℕ) (ls : List (Ident Spot)) : Option ℕ → Type 0 where
+  nothing : first_named n ls ≡ none → Finds n ls None
+  found : {k : ℕ} {i : Ident Spot} → Nth k i ls → first_named n ls ≡ some i → Finds n ls (Some k)
 
 -- the search for a name
-pub record Searches (s : Scope) (w : List ℕ) (n : ℕ) (r : Found) : Type 0 where
+pub record Searches (s : Scope) (w : List ℕ) (n : ℕ) (r : Option ℕ) : Type 0 where
   pub finds : {ls : List (Ident Spot)} {layer : ℕ} {p : Prunings Spot} {next : ℕ} → Holds s w ls layer p next → Finds n ls r
 
 -- entry k

@@ -43,11 +43,8 @@ impl Scope {
             return;
         }
         let place = word(table, LABEL_GOTO + label);
-        let count = self.count;
-        let mut k = self.layer;
-        while k < count {
+        for k in self.layer..self.count {
             prune(table, k, note, label, place);
-            k += 1;
         }
         set_word(table, LABEL_NOTE + label, 0);
     }
@@ -57,10 +54,7 @@ impl Scope {
 fn prune(table: &mut [u32], k: usize, note: u32, label: usize, place: u32)
     ensures { PrunesOne k note label place table.old table.new }
 {
-    if 1024 <= k {
-        return;
-    }
-    if 1024 <= label {
+    if 1024 <= k || 1024 <= label {
         return;
     }
     if 1 < word(table, LOCAL_FATE + k) {
@@ -73,17 +67,17 @@ fn prune(table: &mut [u32], k: usize, note: u32, label: usize, place: u32)
     set_word(table, LOCAL_GOTO + k, place);
 }
 
+#[tactic(auto, using(crate::proofs::Becoming::fate_of_laws))]
 pub fn fate_of(table: &[u32], k: usize) -> Fate
     ensures { Becomes table.now k result }
 {
     if 1024 <= k {
         return Fate::Standing;
     }
-    let fate = word(table, LOCAL_FATE + k);
-    match fate {
+    match word(table, LOCAL_FATE + k) {
         0 => Fate::Standing,
         1 => Fate::Poisoned,
-        _ => Fate::Pruned((fate - 2) as usize, word(table, LOCAL_GOTO + k)),
+        fate => Fate::Pruned((fate - 2) as usize, word(table, LOCAL_GOTO + k)),
     }
 }
 

@@ -11,13 +11,6 @@ pub struct Scope {
     pub layer: usize,
 }
 
-// Which entry.
-#[derive(Clone, Copy)]
-pub enum Found {
-    At(usize),
-    Nothing,
-}
-
 // An identifier that is declared: its name, its place, where it stands in the tree, its id.
 #[derive(Clone, Copy)]
 pub struct Local {
@@ -27,7 +20,15 @@ pub struct Local {
     pub id: u32,
 }
 
+const NO_LOCAL: Local = Local {
+    name: 0,
+    place: 0,
+    from: 0,
+    id: 0,
+};
+
 impl Scope {
+    #[tactic(auto, using(crate::proofs::Scoping::begun))]
     pub fn new() -> Self
         ensures { Begins result }
     {
@@ -35,12 +36,13 @@ impl Scope {
     }
 
     // A layer begins at the entries that are there.
+    #[tactic(auto, using(crate::proofs::Scoping::opened))]
     pub fn open(self) -> Self
         ensures { Opens self result }
     {
         Scope {
-            count: self.count,
             layer: self.count,
+            ..self
         }
     }
 
@@ -48,10 +50,7 @@ impl Scope {
     pub fn close(self, table: &mut [u32], outer: Scope) -> Self
         ensures { Closes self outer table.old result table.new }
     {
-        let kept = outer.count;
-        let mut k = self.count;
-        while kept < k {
-            k -= 1;
+        for k in (outer.count..self.count).rev() {
             vacate(table, k);
         }
         outer
@@ -69,35 +68,29 @@ impl Scope {
         lead(table, k, local.name);
         Scope {
             count: k + 1,
-            layer: self.layer,
+            ..self
         }
     }
 
     // The outermost entry of that name, the first declared.
-    pub fn find(self, table: &[u32], name: u32) -> Found
+    #[tactic(auto, using(crate::proofs::Scoping::find_laws))]
+    pub fn find(self, table: &[u32], name: u32) -> Option<usize>
         ensures { Searches self table.now name result }
     {
         if 1024 <= name {
-            return Found::Nothing;
+            return None;
         }
-        let head = word(table, HEADS + name as usize);
-        if head == 0 {
-            return Found::Nothing;
-        }
-        Found::At((head - 1) as usize)
+        let entry = word(table, HEADS + name as usize).checked_sub(1)?;
+        Some(entry as usize)
     }
 }
 
+#[tactic(auto, using(crate::proofs::Scoping::read_past, crate::proofs::Scoping::read_at))]
 pub fn local_at(table: &[u32], k: usize) -> Local
     ensures { LocalAt table.now k result }
 {
     if 1024 <= k {
-        return Local {
-            name: 0,
-            place: 0,
-            from: 0,
-            id: 0,
-        };
+        return NO_LOCAL;
     }
     Local {
         name: word(table, LOCAL_NAME + k),
@@ -108,6 +101,7 @@ pub fn local_at(table: &[u32], k: usize) -> Local
 }
 
 // The columns of entry k; a variable is standing when it is declared.
+#[tactic(auto, using(crate::proofs::Scoping::enter_past, crate::proofs::Scoping::entered))]
 fn enter(table: &mut [u32], k: usize, local: Local)
     ensures { Enters k local table.old table.new }
 {
@@ -122,13 +116,11 @@ fn enter(table: &mut [u32], k: usize, local: Local)
 }
 
 // Entry k heads its name, where none does yet.
+#[tactic(auto, using(crate::proofs::Scoping::lead_laws))]
 fn lead(table: &mut [u32], k: usize, name: u32)
     ensures { Leads k name table.old table.new }
 {
-    if 1024 <= k {
-        return;
-    }
-    if 1024 <= name {
+    if 1024 <= k || 1024 <= name {
         return;
     }
     let at = HEADS + name as usize;

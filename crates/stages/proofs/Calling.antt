@@ -7,12 +7,12 @@ use native.Mathlib.Omega.{arith}
 use lib.Dec.{ltb}
 use lib.ListN.{get_or}
 use borrow.Author.Tests.{ltb-true}
+use Rattle.std.specs.Prelude.{Result, Ok, Err}
+use Rattle.fields.specs.declared.refusal.Refusal.{Refusal}
 use Rattle.penne.specs.Reader.{Counts, Cur, Got, got, refused, ◌>>=◌, ret, such, num, below, plus, fits, counted, counting}
 use Rattle.penne.specs.Tree.{Spot, Ident, Maybe, Ty, Expr, Param, Body, Poison, Decl, constant, function, function_head, structure, import, bad_decl}
 use Rattle.penne.specs.Read.{DeclKind, read_decl, decl_head, decl_of, decl_counts, decl_kinds, k_bad_decl, read_constant, read_function, read_function_head, read_structure, read_import}
-use Rattle.fields.specs.declared.number.Read.{Read}
-use Rattle.fields.specs.declared.number.Read.TheVariants.{Number, Refused}
-use Rattle.fields.specs.Answers.{cursor, number_of, Gives}
+use Rattle.fields.specs.Answers.{row_of, cursor, number_of, Gives}
 use Rattle.walk.specs.Walking.{Leads}
 use Rattle.walk.proofs.Leading.{never, bind_got, such_got, leads_bind, leads_counting, leads_got}
 use Rattle.stages.specs.declared.heads.Start.{Start}
@@ -33,21 +33,20 @@ pub data Nameless : Decl Spot → Type 0 where
 
 -- THE KIND
 
-module _ {t : List ℕ} {at : ℕ} (names : ℕ) (c : Counts) {r : Read} (g : Gives (below 6) t at r) where
-  pub never_read : {X : Type 0} {n p : ℕ} {x : Decl Spot} {d : Cur} → r ≡ Refused n p → read_decl t (cursor at names c) ≡ got x d → X
-  unfolding read_decl counting decl_head number_of
-  never_read {n = n} {p} e q =
-      let z : below 6 t (cursor at names c) ≡ refused n p = sym (g.is names c) ∙ ap (number_of names c) e in
+module _ {t : List ℕ} {at : ℕ} (names : ℕ) (c : Counts) {r : Result (ℕ × ℕ) Refusal} (g : Gives (below 6) t at r) where
+  pub never_read : {X : Type 0} {f : Refusal} {x : Decl Spot} {d : Cur} → r ≡ Err f → read_decl t (cursor at names c) ≡ got x d → X
+  unfolding read_decl counting decl_head
+  never_read {f = f} e q =
+      let z : below 6 t (cursor at names c) ≡ refused (row_of f.reason) f.place = g.is names c ∙ ap (number_of names c) e in
       absurd ((leads_bind {P = λ x d. ⊥} (counting decl_counts decl_head) (decl_of 63) (λ y b u.
       let v = bind_got (such decl_head (λ a c. fits (plus c.counts (decl_counts a))) 8) (λ a s c. got a (counted c (decl_counts a))) t (cursor at names c) u in
       let h = such_got decl_head (λ a c. fits (plus c.counts (decl_counts a))) 8 t (cursor at names c) v.2 in
       let m = bind_got (below 6) (λ n. ret (get_or decl_kinds n k_bad_decl)) t (cursor at names c) h.0 in
       never (sym z ∙ m.2))).to _ _ q)
 
-  module _ {k a : ℕ} (e : r ≡ Number k a) where
+  module _ {k a : ℕ} (e : r ≡ Ok (k, a)) where
     kind_got : below 6 t (cursor at names c) ≡ got k (cursor a names c)
-    unfolding number_of
-    kind_got = sym (g.is names c) ∙ ap (number_of names c) e
+    kind_got = g.is names c ∙ ap (number_of names c) e
 
     head_got : decl_head t (cursor at names c) ≡ got (get_or decl_kinds k k_bad_decl) (cursor a names c)
     unfolding decl_head ◌>>=◌ ret

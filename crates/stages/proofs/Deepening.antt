@@ -2,6 +2,7 @@
 use Prim.Native.Nat.{ℕ, zero, suc, ◌≤◌, ◌<◌}
 use mathlib.Core.Path.{◌≡◌, refl, sym, ap, subst, ◌∙◌}
 use mathlib.Core.Bool.{Bool, true, false, not, ◌&&◌}
+use mathlib.Core.Logic.{◌⊎◌, inl, inr}
 use mathlib.Core.List.{List, [], ◌∷◌, map}
 use mathlib.Core.Option.{Option, none, some}
 use native.Mathlib.Omega.{arith}
@@ -10,17 +11,17 @@ use lib.ListN.{length, take, drop, length-drop}
 use lib.Seq.{length-take-le}
 use borrow.Author.Tests.{eq-eqb}
 use borrow.Rule.Slice.PartMut.{put_mid}
+use Rattle.std.specs.Prelude.{Result, Ok, Err}
+use Rattle.fields.specs.declared.refusal.Refusal.{Refusal}
 use Rattle.penne.specs.Reader.{below}
 use Rattle.penne.specs.Tree.{Spot, Ident, Decl}
 use Rattle.penne.specs.Find.{first, first_named, keep}
 use Rattle.penne.specs.Containers.{Container, Containment, identifier_of, constants, structures, id_of}
 use Rattle.penne.proofs.Booleans.{some_same, none_some}
 use Rattle.fields.specs.declared.counts.Counts as C
-use Rattle.fields.specs.declared.number.Read.{Read}
-use Rattle.fields.specs.declared.number.Read.TheVariants.{Number, Refused}
 use Rattle.fields.specs.Answers.{counts_of, Gives}
-use Rattle.containers.specs.declared.containers.Found.{Found}
-use Rattle.containers.specs.declared.containers.Found.TheVariants.{At, Nothing}
+use Rattle.std.specs.Prelude as Rust
+use Rattle.std.specs.Prelude.{Some, None}
 use Rattle.containers.specs.Table.{at, id_at, kind_of, Holds}
 use Rattle.containers.specs.Calls.{of_kind, found_in}
 use Rattle.containers.specs.Depths.{Determines, TellsDepth}
@@ -122,12 +123,12 @@ module _ {k : Script} {kind name : ℕ} {w : List ℕ} where
   pub kept_short : {row : ℕ} → length w < 16384 → KeptDepth k kind name row w 0
   kept_short h = record { is = λ l. absurd (omega arith) }
 
-  module _ {f : Found} (g : FindsIn k kind name w f) where
+  module _ {f : Rust.Option ℕ} (g : FindsIn k kind name w f) where
     -- what the search through all tells
     told : (long : 16384 ≤ length w) (s : Containment Spot) (h : Holds k.containers (containers_in w) s) (whole : Bool) → kind ≡ kind_of whole → found_in s.containers f ≡ first_by (of_that whole name) s.containers
     told long s h whole e = (g.finds long).finds s h whole e ∙ first_kind whole name s.containers
 
-    pub kept_nowhere : {row : ℕ} → f ≡ Nothing → KeptDepth k kind name row w 0
+    pub kept_nowhere : {row : ℕ} → f ≡ None → KeptDepth k kind name row w 0
     unfolding found_in
     kept_nowhere {row} z = record {
       is = λ long s h whole e o.
@@ -140,7 +141,7 @@ module _ {k : Script} {kind name : ℕ} {w : List ℕ} where
         go cs whole none y q o = none_some _ (q ∙ at_row (of_that whole name) cs row o.low (row_passes whole name cs row o) y)
         go cs whole (some j) y q o = none_some _ (q ∙ (before (of_that whole name) cs row j y).is)
 
-    module _ {i : ℕ} (z : f ≡ At i) where
+    module _ {i : ℕ} (z : f ≡ Some i) where
       found_row : (long : 16384 ≤ length w) (s : Containment Spot) (h : Holds k.containers (containers_in w) s) (whole : Bool) → kind ≡ kind_of whole → some (at s.containers i).identifier ≡ first_by (of_that whole name) s.containers
       unfolding found_in
       found_row long s h whole e = ap (found_in s.containers) (sym z) ∙ told long s h whole e
@@ -174,11 +175,12 @@ module _ {k : Script} {kind name : ℕ} {w : List ℕ} where
 -- NAMED_DEPTH
 
 module _ {k : Script} {kind name row : ℕ} {w : List ℕ} where
-  pub named_constant : {r : ℕ} → kind ≡ 0 → KeptDepth k 0 name row w r → NamedDepth k kind name row w r
-  named_constant e d = record { is = λ long s h whole z o. d.is long s h whole (sym e ∙ z) o; none_is = λ a b. absurd (a e) }
-
-  pub named_structure : {r : ℕ} → kind ≡ 3 → KeptDepth k 3 name row w r → NamedDepth k kind name row w r
-  named_structure e d = record { is = λ long s h whole z o. d.is long s h whole (sym e ∙ z) o; none_is = λ a b. absurd (b e) }
+  pub named_kept : {r : ℕ} → (kind ≡ 0) ⊎ (kind ≡ 3) → KeptDepth k kind name row w r → NamedDepth k kind name row w r
+  named_kept e d = record { is = d.is; none_is = λ a b. absurd (apart a b e) }
+    where
+      apart : (kind ≡ 0 → ⊥) → (kind ≡ 3 → ⊥) → (kind ≡ 0) ⊎ (kind ≡ 3) → ⊥
+      apart a b (inl e) = a e
+      apart a b (inr e) = b e
 
   pub named_none : (kind ≡ 0 → ⊥) → (kind ≡ 3 → ⊥) → NamedDepth k kind name row w 0
   unfolding kind_of
@@ -202,19 +204,24 @@ unfolding depth_in
 nameless_depth cs row an_import = refl
 nameless_depth cs row a_poison = refl
 
-module _ {t : List ℕ} {k : Script} {n : C.Counts} {at : ℕ} {w : List ℕ} {r : Read} (g : Gives (below 6) t at r) where
-  pub depth_never : {i p d : ℕ} → r ≡ Refused i p → DepthOf t k n at w d
+module _ {t : List ℕ} {k : Script} {n : C.Counts} {at : ℕ} {w : List ℕ} {r : Result (ℕ × ℕ) Refusal} (g : Gives (below 6) t at r) where
+  pub depth_never : {d : ℕ} {x : Refusal} → r ≡ Err x → DepthOf t k n at w d
   depth_never e = record { is = λ long s h v o. never_read k.names (counts_of n) g e v }
 
-  module _ {kind a : ℕ} (e : r ≡ Number kind a) {h₀ : Head} (o : Heads t k.names a kind h₀) where
-    pub depth_named : {h : Start} {d : ℕ} → h₀ ≡ H.Named h → NamedDepth k kind h.identifier.name n.containers w d → DepthOf t k n at w d
-    depth_named q z = record { is = λ long s h v u. called_depth (kind_named k.names (counts_of n) g e (told_named o q) v) z long s h u }
+  module _ {kind a : ℕ} (e : r ≡ Ok (kind, a)) where
+    pub depth_unread : {r₀ : Result Head Refusal} {x : Refusal} {d : ℕ} → Heads t k.names a kind r₀ → r₀ ≡ Err x → DepthOf t k n at w d
+    depth_unread o q = record { is = λ long s h v u. kind_unread k.names (counts_of n) g e (told_unread o q (kind_low k.names (counts_of n) g e)) v }
 
-    pub depth_import : h₀ ≡ H.Import → DepthOf t k n at w 0
-    depth_import q = record { is = λ long s h v u. nameless_depth s.containers n.containers (kind_import k.names (counts_of n) g e (told_import o q) v) }
+    module _ {h₀ : Head} (o : Heads t k.names a kind (Ok h₀)) where
+      pub depth_named : {h : Start} {d : ℕ} → h₀ ≡ H.Named h → NamedDepth k kind h.identifier.name n.containers w d → DepthOf t k n at w d
+      depth_named q z = record { is = λ long s h v u. called_depth (kind_named k.names (counts_of n) g e (told_named o q) v) z long s h u }
 
-    pub depth_poison : h₀ ≡ H.Poison → DepthOf t k n at w 0
-    depth_poison q = record { is = λ long s h v u. nameless_depth s.containers n.containers (kind_poison k.names (counts_of n) g e (told_poison o q) v) }
+      depth_import : h₀ ≡ H.Import → DepthOf t k n at w 0
+      depth_import q = record { is = λ long s h v u. nameless_depth s.containers n.containers (kind_import k.names (counts_of n) g e (told_import o q) v) }
 
-    pub depth_unread : {d : ℕ} → h₀ ≡ H.Unread → DepthOf t k n at w d
-    depth_unread q = record { is = λ long s h v u. kind_unread k.names (counts_of n) g e (told_unread o q (kind_low k.names (counts_of n) g e)) v }
+      depth_poison : h₀ ≡ H.Poison → DepthOf t k n at w 0
+      depth_poison q = record { is = λ long s h v u. nameless_depth s.containers n.containers (kind_poison k.names (counts_of n) g e (told_poison o q) v) }
+
+      pub depth_not : (h₀ ≡ H.Import) ⊎ (h₀ ≡ H.Poison) → DepthOf t k n at w 0
+      depth_not (inl q) = depth_import q
+      depth_not (inr q) = depth_poison q

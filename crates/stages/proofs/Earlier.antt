@@ -1,15 +1,14 @@
 -- Was the name declared before: what the search through the rows says of the rows before this one.
 use mathlib.Core.Path.{◌≡◌, refl, sym, ap, subst, ◌∙◌}
 use mathlib.Core.List.{List}
-use mathlib.Core.Option.{Option, none, some}
+use mathlib.Core.Option as M
 use Prim.Native.Nat.{ℕ, ◌≤◌, ◌<◌}
 use native.Mathlib.Omega.{arith}
 use borrow.Author.Tests.{lt-ltb, le-ltb}
+use Rattle.std.specs.Prelude.{Option, Some, None}
 use Rattle.penne.specs.Tree.{Spot, Ident}
 use Rattle.fields.specs.declared.field.Identifier.{Identifier}
 use Rattle.containers.specs.declared.containers.Declared.{Declared}
-use Rattle.containers.specs.declared.containers.Found.{Found}
-use Rattle.containers.specs.declared.containers.Found.TheVariants.{At, Nothing}
 use Rattle.containers.specs.Table.{at}
 use Rattle.containers.specs.Calls.{before, found_in}
 use Rattle.containers.specs.Functions.{function_at, function_in}
@@ -17,31 +16,29 @@ use Rattle.walk.specs.declared.state.Walk.{Walk}
 use Rattle.walk.specs.declared.fault.Fault.{Fault}
 use Rattle.walk.specs.Walking.{duplicate_fault}
 use Rattle.walk.specs.Calls.{FindsIn, ContainerAt, FindsFunctionIn, FunctionAt}
-use Rattle.stages.specs.declared.before.Before.{Before}
-use Rattle.stages.specs.declared.before.Before.TheVariants as B
 use Rattle.stages.specs.Before.{Refers, declared, undeclared, ContainerBefore, FunctionBefore, DeclaredBefore}
 
 -- what was found stands before row n, or behind it
-before_low : (row n : ℕ) → row < n → before n (At row) ≡ At row
+before_low : (row n : ℕ) → row < n → before n (Some row) ≡ Some row
 unfolding before
 before_low row n h = rw (lt-ltb row n h, before)
 
-before_high : (row n : ℕ) → n ≤ row → before n (At row) ≡ Nothing
+before_high : (row n : ℕ) → n ≤ row → before n (Some row) ≡ None
 unfolding before
 before_high row n h = rw (le-ltb row n h, before)
 
-before_none : (n : ℕ) → before n Nothing ≡ Nothing
+before_none : (n : ℕ) → before n None ≡ None
 unfolding before
 before_none n = refl
 
-refers_no : {kind : ℕ} {i : Identifier} {x : Option (Ident Spot)} → none ≡ x → Refers kind i B.No x
-refers_no {kind} {i} e = subst (λ (y : Option (Ident Spot)). Refers kind i B.No y) e undeclared
+refers_no : {kind : ℕ} {i : Identifier} {x : M.Option (Ident Spot)} → M.none ≡ x → Refers kind i None x
+refers_no {kind} {i} e = subst (λ (y : M.Option (Ident Spot)). Refers kind i None y) e undeclared
 
-refers_to : {kind : ℕ} {i : Identifier} {x : Option (Ident Spot)} {f : Fault} {place : ℕ} (j : Ident Spot) → f ≡ duplicate_fault kind i place → place ≡ j.place.number → some j ≡ x → Refers kind i (B.Yes f) x
-refers_to {kind} {i} {f = f} j d p e = subst (λ (y : Option (Ident Spot)). Refers kind i (B.Yes f) y) e (declared (d ∙ ap (duplicate_fault kind i) p))
+refers_to : {kind : ℕ} {i : Identifier} {x : M.Option (Ident Spot)} {f : Fault} {place : ℕ} (j : Ident Spot) → f ≡ duplicate_fault kind i place → place ≡ j.place.number → M.some j ≡ x → Refers kind i (Some f) x
+refers_to {kind} {i} {f = f} j d p e = subst (λ (y : M.Option (Ident Spot)). Refers kind i (Some f) y) e (declared (d ∙ ap (duplicate_fault kind i) p))
 
-module _ {kind poison : ℕ} {s : Walk} {i : Identifier} {w : List ℕ} {r : Found} (g : FindsIn s.script kind i.name w r) where
-  not_before : ((n : ℕ) → n ≡ s.counts.containers → before n r ≡ Nothing) → ContainerBefore kind poison s i w B.No
+module _ {kind poison : ℕ} {s : Walk} {i : Identifier} {w : List ℕ} {r : Option ℕ} (g : FindsIn s.script kind i.name w r) where
+  not_before : ((n : ℕ) → n ≡ s.counts.containers → before n r ≡ None) → ContainerBefore kind poison s i w None
   unfolding found_in
   not_before z = record {
     tells = λ {a} t structure q l.
@@ -51,14 +48,14 @@ module _ {kind poison : ℕ} {s : Walk} {i : Identifier} {w : List ℕ} {r : Fou
         refers_no (sym (ap (found_in a.containment.containers) (z n refl)) ∙ (g.finds t.long).earlier a.containment h structure q n (omega arith));
   }
 
-  pub container_none : r ≡ Nothing → ContainerBefore kind poison s i w B.No
+  pub container_none : r ≡ None → ContainerBefore kind poison s i w None
   container_none e = not_before λ n _. ap (before n) e ∙ before_none n
 
-  module _ {row : ℕ} (e : r ≡ At row) where
-    pub container_later : s.counts.containers ≤ row → ContainerBefore kind poison s i w B.No
+  module _ {row : ℕ} (e : r ≡ Some row) where
+    pub container_later : s.counts.containers ≤ row → ContainerBefore kind poison s i w None
     container_later l = not_before λ n q. ap (before n) e ∙ before_high row n (omega arith)
 
-    pub container_earlier : {d : Declared} {f : Fault} → row < s.counts.containers → ContainerAt row w d → f ≡ duplicate_fault poison i d.place → ContainerBefore kind poison s i w (B.Yes f)
+    pub container_earlier : {d : Declared} {f : Fault} → row < s.counts.containers → ContainerAt row w d → f ≡ duplicate_fault poison i d.place → ContainerBefore kind poison s i w (Some f)
     unfolding found_in
     container_earlier {d} {f} l at_row dup = record {
       tells = λ {a} t structure q m.
@@ -69,8 +66,8 @@ module _ {kind poison : ℕ} {s : Walk} {i : Identifier} {w : List ℕ} {r : Fou
           (sym (ap (found_in a.containment.containers) (ap (before n) e ∙ before_low row n l)) ∙ (g.finds t.long).earlier a.containment h structure q n (omega arith));
     }
 
-module _ {s : Walk} {i : Identifier} {w : List ℕ} {r : Found} (g : FindsFunctionIn s.script i.name w r) where
-  no_function : ((n : ℕ) → n ≡ s.counts.functions → before n r ≡ Nothing) → FunctionBefore s i w B.No
+module _ {s : Walk} {i : Identifier} {w : List ℕ} {r : Option ℕ} (g : FindsFunctionIn s.script i.name w r) where
+  no_function : ((n : ℕ) → n ≡ s.counts.functions → before n r ≡ None) → FunctionBefore s i w None
   unfolding function_in
   no_function z = record {
     tells = λ {a} t l.
@@ -80,14 +77,14 @@ module _ {s : Walk} {i : Identifier} {w : List ℕ} {r : Found} (g : FindsFuncti
         refers_no (sym (ap (function_in a.function_list) (z n refl)) ∙ (g.finds t.long).earlier a.function_list h n (omega arith));
   }
 
-  pub function_none : r ≡ Nothing → FunctionBefore s i w B.No
+  pub function_none : r ≡ None → FunctionBefore s i w None
   function_none e = no_function λ n _. ap (before n) e ∙ before_none n
 
-  module _ {row : ℕ} (e : r ≡ At row) where
-    pub function_later : s.counts.functions ≤ row → FunctionBefore s i w B.No
+  module _ {row : ℕ} (e : r ≡ Some row) where
+    pub function_later : s.counts.functions ≤ row → FunctionBefore s i w None
     function_later l = no_function λ n q. ap (before n) e ∙ before_high row n (omega arith)
 
-    pub function_earlier : {d : Declared} {f : Fault} → row < s.counts.functions → FunctionAt row w d → f ≡ duplicate_fault 7 i d.place → FunctionBefore s i w (B.Yes f)
+    pub function_earlier : {d : Declared} {f : Fault} → row < s.counts.functions → FunctionAt row w d → f ≡ duplicate_fault 7 i d.place → FunctionBefore s i w (Some f)
     unfolding function_in
     function_earlier {d} {f} l at_row dup = record {
       tells = λ {a} t m.
@@ -99,7 +96,7 @@ module _ {s : Walk} {i : Identifier} {w : List ℕ} {r : Found} (g : FindsFuncti
     }
 
 -- by the kind of the declaration
-module _ {kind : ℕ} {s : Walk} {i : Identifier} {w : List ℕ} {r : Before} where
+module _ {kind : ℕ} {s : Walk} {i : Identifier} {w : List ℕ} {r : Option Fault} where
   pub before_constant : kind ≡ 0 → ContainerBefore 0 3 s i w r → DeclaredBefore kind s i w r
   before_constant e k = record { constant = λ _. k; structure = λ q. absurd (omega arith); function = λ z _. absurd (z e) }
 

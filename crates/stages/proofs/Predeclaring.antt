@@ -2,6 +2,7 @@
 use Prim.Native.Nat.{ℕ, suc, ◌+◌, ◌-◌, ◌≤◌, ◌<◌, min}
 use mathlib.Core.Path.{◌≡◌, refl, sym, ap, subst, ◌∙◌}
 use mathlib.Core.Bool.{Bool, true, false, ◌&&◌}
+use mathlib.Core.Logic.{◌⊎◌, inl, inr}
 use mathlib.Core.List.{List, [], ◌∷◌, ◌++◌}
 use native.Mathlib.Nat.{min-eq_left}
 use native.Mathlib.Decide.{dec_lt}
@@ -11,6 +12,8 @@ use lib.ListN.{length, get_or, drop, length-drop}
 use lib.Seq.{get_or-take, length-take-le}
 use borrow.Author.Tests.{leb-true}
 use borrow.Rule.Slice.PartMut.{put_mid, same_len_mid}
+use Rattle.std.specs.Prelude.{Result, Ok, Err}
+use Rattle.fields.specs.declared.refusal.Refusal.{Refusal}
 use Rattle.penne.specs.Reader.{Counts, Cur, Got, got, refused, ret, below, many, plus, fits, nothing, a_container, a_function}
 use Rattle.penne.specs.Tree.{Spot, Ident, Decl}
 use Rattle.penne.specs.Read.{read_decl, decl_counts, decl_kinds, k_bad_decl}
@@ -20,11 +23,7 @@ use Rattle.penne.specs.Containers.{Container, Containment, id_of, push_container
 use Rattle.penne.specs.Scopes.{Analyzer, Scope, authoritative, next_id, with_stack, with_containment, with_functions, declare_constant, declare_function, declare_struct, begin}
 use Rattle.penne.specs.Variables.{predeclare, in_turn}
 use Rattle.fields.specs.declared.counts.Counts as C
-use Rattle.fields.specs.declared.counts.Passed.{Passed}
-use Rattle.fields.specs.declared.counts.Passed.TheVariants as P
 use Rattle.fields.specs.declared.field.Identifier.{Identifier}
-use Rattle.fields.specs.declared.number.Read.{Read}
-use Rattle.fields.specs.declared.number.Read.TheVariants.{Number, Refused}
 use Rattle.tree.specs.declared.script.Layout.{Layout}
 use Rattle.fields.specs.Answers.{cursor, counts_of, ident_of, forget, passed_of, Gives, Passes}
 use Rattle.tree.specs.Script.{LaidOut}
@@ -79,17 +78,12 @@ module _ {kind : ℕ} {k : C.Counts} {i : Identifier} {id : ℕ} {w : List ℕ} 
         above = above_put 13312 1668 w ys (omega arith) e (omega arith);
       }
 
-  pub pushed_constant : {ys : List ℕ} → kind ≡ 0 → Pushes k.containers 0 (declared_by i id) (containers_in w) ys → Pushed kind k i id w (put_mid 13312 1668 w ys)
-  pushed_constant {ys} e p = record {
-    container = λ long s z. container_in long (subst (λ (n : ℕ). Pushes k.containers n (declared_by i id) (containers_in w) ys) (sym e) p);
-    function = λ long a b. absurd (a e);
-  }
-
-  pub pushed_structure : {ys : List ℕ} → kind ≡ 3 → Pushes k.containers 3 (declared_by i id) (containers_in w) ys → Pushed kind k i id w (put_mid 13312 1668 w ys)
-  pushed_structure {ys} e p = record {
-    container = λ long s z. container_in long (subst (λ (n : ℕ). Pushes k.containers n (declared_by i id) (containers_in w) ys) (sym e) p);
-    function = λ long a b. absurd (b e);
-  }
+  pub pushed_container : {ys : List ℕ} → (kind ≡ 0) ⊎ (kind ≡ 3) → Pushes k.containers kind (declared_by i id) (containers_in w) ys → Pushed kind k i id w (put_mid 13312 1668 w ys)
+  pushed_container e p = record { container = λ long s z. container_in long p; function = λ long a b. absurd (apart a b e) }
+    where
+      apart : (kind ≡ 0 → ⊥) → (kind ≡ 3 → ⊥) → (kind ≡ 0) ⊎ (kind ≡ 3) → ⊥
+      apart a b (inl e) = a e
+      apart a b (inr e) = b e
 
   pub pushed_function : {ys : List ℕ} → (kind ≡ 0 → ⊥) → (kind ≡ 3 → ⊥) → PushesFunction k.functions (declared_by i id) (functions_in w) ys → Pushed kind k i id w (put_mid 14980 768 w ys)
   unfolding kind_of
@@ -215,8 +209,11 @@ unfolding predeclare S.ret rows_of
 declared_not k' an_import t e₁ c f = (tabled_same k' t c f, e₁)
 declared_not k' a_poison t e₁ c f = (tabled_same k' t c f, e₁)
 
-module _ {t : List ℕ} {names : ℕ} {k : C.Counts} {at : ℕ} {r : Read} (g : Gives (below 6) t at r) {kind a : ℕ} (e : r ≡ Number kind a) {id : ℕ} {w : List ℕ} where
-  module _ {h₀ : Head} (o : Heads t names a kind h₀) where
+module _ {t : List ℕ} {names : ℕ} {k : C.Counts} {at : ℕ} {r : Result (ℕ × ℕ) Refusal} (g : Gives (below 6) t at r) {kind a : ℕ} (e : r ≡ Ok (kind, a)) {id : ℕ} {w : List ℕ} where
+  pub predeclares_unread : {r₀ : Result Head Refusal} {x : Refusal} {n : ℕ} {w' : List ℕ} → Heads t names a kind r₀ → r₀ ≡ Err x → Predeclares t names k at id w n w'
+  predeclares_unread o q = record { does = λ v z e₁ few k' y. kind_unread names (counts_of k) g e (told_unread o q (kind_low names (counts_of k) g e)) v }
+
+  module _ {h₀ : Head} (o : Heads t names a kind (Ok h₀)) where
     pub predeclares_named : {h : Start} {w' : List ℕ} {n : ℕ} → h₀ ≡ H.Named h → Pushed kind k h.identifier id w w' → n ≡ min (id + 1) 4294967295 → Predeclares t names k at id w n w'
     predeclares_named {h} q p m = record {
       does = λ {x} {d} v {w₀} {u} z e₁ few k' y.
@@ -224,24 +221,25 @@ module _ {t : List ℕ} {names : ℕ} {k : C.Counts} {at : ℕ} {r : Read} (g : 
           declared_as k' (kind_named names (counts_of k) g e (told_named o q) v) (kind_fits names (counts_of k) g e v) p m z e₁ few (ap (λ (c : Counts). c.containers) (sym y) ∙ s.containers) (ap (λ (c : Counts). c.functions) (sym y) ∙ s.functions);
     }
 
-    pub predeclares_not : h₀ ≡ H.Import → Predeclares t names k at id w id w
-    predeclares_not q = record {
+    predeclares_import : h₀ ≡ H.Import → Predeclares t names k at id w id w
+    predeclares_import q = record {
       does = λ {x} {d} v {w₀} {u} z e₁ few k' y.
           let s = passing t (cursor at names (counts_of k)) v in
           declared_not k' (kind_import names (counts_of k) g e (told_import o q) v) z e₁ (ap (λ (c : Counts). c.containers) (sym y) ∙ s.containers) (ap (λ (c : Counts). c.functions) (sym y) ∙ s.functions);
     }
 
-    pub predeclares_poison : h₀ ≡ H.Poison → Predeclares t names k at id w id w
+    predeclares_poison : h₀ ≡ H.Poison → Predeclares t names k at id w id w
     predeclares_poison q = record {
       does = λ {x} {d} v {w₀} {u} z e₁ few k' y.
           let s = passing t (cursor at names (counts_of k)) v in
           declared_not k' (kind_poison names (counts_of k) g e (told_poison o q) v) z e₁ (ap (λ (c : Counts). c.containers) (sym y) ∙ s.containers) (ap (λ (c : Counts). c.functions) (sym y) ∙ s.functions);
     }
 
-    pub predeclares_unread : {n : ℕ} {w' : List ℕ} → h₀ ≡ H.Unread → Predeclares t names k at id w n w'
-    predeclares_unread q = record { does = λ v z e₁ few k' y. kind_unread names (counts_of k) g e (told_unread o q (kind_low names (counts_of k) g e)) v }
+    pub predeclares_not : (h₀ ≡ H.Import) ⊎ (h₀ ≡ H.Poison) → Predeclares t names k at id w id w
+    predeclares_not (inl q) = predeclares_import q
+    predeclares_not (inr q) = predeclares_poison q
 
-pub predeclares_never : {t : List ℕ} {names : ℕ} {k : C.Counts} {at id : ℕ} {w : List ℕ} {r : Read} {n p : ℕ} {m : ℕ} {w' : List ℕ} → Gives (below 6) t at r → r ≡ Refused n p → Predeclares t names k at id w m w'
+pub predeclares_never : {t : List ℕ} {names : ℕ} {k : C.Counts} {at id : ℕ} {w : List ℕ} {r : Result (ℕ × ℕ) Refusal} {x : Refusal} {m : ℕ} {w' : List ℕ} → Gives (below 6) t at r → r ≡ Err x → Predeclares t names k at id w m w'
 predeclares_never {names = names} {k} g e = record { does = λ v z e₁ few k' y. never_read names (counts_of k) g e v }
 
 -- ALL DECLARATIONS
@@ -260,26 +258,26 @@ pub record Coming (t : List ℕ) (names rest₀ at₀ : ℕ) (k₀ : C.Counts) (
   pub long : length w ≡ length w₀
   pub on : {d : Cur} {end : Analyzer Spot} → Come t names rest₀ at₀ k₀ id₀ w₀ w₀ d end → Come t names rest at k id w₀ w d end
 
-pub coming_start : {t : List ℕ} {names rest at : ℕ} {k : C.Counts} {id : ℕ} {w : List ℕ} → Coming t names rest at k id w rest at k id w
-coming_start = record { long = refl; on = λ c. c }
+pub coming_start : {t : List ℕ} {names rest₀ rest at : ℕ} {k : C.Counts} {id : ℕ} {w : List ℕ} → rest₀ ≡ rest → Coming t names rest₀ at k id w rest at k id w
+coming_start {t} {names} {rest₀} {at = at} {k} {id} {w} e = subst (λ (rest : ℕ). Coming t names rest₀ at k id w rest at k id w) e (record { long = refl; on = λ c. c })
 
-pub passed_to : {A : Type 0} (q : Got A) {names n : ℕ} {k : C.Counts} → passed_of names (P.To n k) ≡ forget q → {x : A} {d : Cur} → q ≡ got x d → d ≡ cursor n names (counts_of k)
-unfolding passed_of forget
-passed_to (got a c) e g = sym (same_cur g) ∙ sym (same_cur e)
+pub passed_to : {A : Type 0} (q : Got A) {names n : ℕ} {k : C.Counts} → forget q ≡ passed_of names (Ok (n, k)) → {x : A} {d : Cur} → q ≡ got x d → d ≡ cursor n names (counts_of k)
+unfolding forget
+passed_to (got a c) e g = sym (same_cur g) ∙ same_cur e
 passed_to (refused n p) e g = never g
 
-pub passed_not : {A X : Type 0} (q : Got A) (names n p : ℕ) → passed_of names (P.Refused n p) ≡ forget q → {x : A} {d : Cur} → q ≡ got x d → X
-unfolding passed_of forget
-passed_not (got a c) names n p e g = never e
-passed_not (refused m o) names n p e g = never g
+pub passed_not : {A X : Type 0} (q : Got A) (names : ℕ) (f : Refusal) → forget q ≡ passed_of names (Err f) → {x : A} {d : Cur} → q ≡ got x d → X
+unfolding forget
+passed_not (got a c) names f e g = cc
+passed_not (refused m o) names f e g = never g
 
 module _ {t : List ℕ} {names rest₀ at₀ : ℕ} {k₀ : C.Counts} {id₀ : ℕ} {w₀ : List ℕ} {rest at : ℕ} {k : C.Counts} {id : ℕ} {w : List ℕ} (c : Coming t names rest₀ at₀ k₀ id₀ w₀ rest at k id w) where
   -- one more
-  one_come : {d : Cur} {end : Analyzer Spot} {r : Passed} {n : ℕ} {k' : C.Counts} {id' : ℕ} {w' : List ℕ} (m : ℕ) → rest ≡ suc m → Come t names rest at k id w₀ w d end → Passes read_decl t names k at r → r ≡ P.To n k' → Predeclares t names k at id w id' w' → Come t names m n k' id' w₀ w' d end
+  one_come : {d : Cur} {end : Analyzer Spot} {r : Result (ℕ × C.Counts) Refusal} {n : ℕ} {k' : C.Counts} {id' : ℕ} {w' : List ℕ} (m : ℕ) → rest ≡ suc m → Come t names rest at k id w₀ w d end → Passes read_decl t names k at r → r ≡ Ok (n, k') → Predeclares t names k at id w id' w' → Come t names m n k' id' w₀ w' d end
   unfolding in_turn S.◌>>=◌ S.ret ids_decls
   one_come {d} {end} {r} {n} {k'} {id'} {w'} m z o p e q =
       many_case read_decl m t (cursor at names (counts_of k)) (subst (λ (i : ℕ). many read_decl i t (cursor at names (counts_of k)) ≡ got o.xs d) z o.read) λ x b ys g h s.
-      let here : b ≡ cursor n names (counts_of k') = passed_to (read_decl t (cursor at names (counts_of k))) (ap (passed_of names) (sym e) ∙ p.is) g in
+      let here : b ≡ cursor n names (counts_of k') = passed_to (read_decl t (cursor at names (counts_of k))) (p.is ∙ ap (passed_of names) e) g in
       let v : ids_decls o.xs ≡ ids_decls (x ∷ ys) = ap ids_decls s in
       let few = o.few in
       let y = q.does g o.tabled o.id_is (omega arith) k' (ap (λ (i : Cur). i.counts) here) in
@@ -293,15 +291,15 @@ module _ {t : List ℕ} {names rest₀ at₀ : ℕ} {k₀ : C.Counts} {id₀ : �
         few = omega (arith, next_own x o.u);
       }
 
-  pub coming_more : {r : Passed} {n : ℕ} {k' : C.Counts} {id' : ℕ} {w' : List ℕ} → (rest ≡ 0 → ⊥) → Passes read_decl t names k at r → r ≡ P.To n k' → Predeclares t names k at id w id' w' → length w' ≡ length w → Coming t names rest₀ at₀ k₀ id₀ w₀ (rest - 1) n k' id' w'
-  coming_more h p e q l = record { long = l ∙ c.long; on = λ o. one_come (rest - 1) (omega arith) (c.on o) p e q }
+  pub coming_more : {m : ℕ} {r : Result (ℕ × C.Counts) Refusal} {n : ℕ} {k' : C.Counts} {id' : ℕ} {w' : List ℕ} → rest ≡ suc m → Passes read_decl t names k at r → r ≡ Ok (n, k') → Predeclares t names k at id w id' w' → length w' ≡ length w → Coming t names rest₀ at₀ k₀ id₀ w₀ m n k' id' w'
+  coming_more {m} h p e q l = record { long = l ∙ c.long; on = λ o. one_come m h (c.on o) p e q }
 
   -- what is read can not be refused
-  pub coming_halt : {r : Passed} {n p : ℕ} → (rest ≡ 0 → ⊥) → Passes read_decl t names k at r → r ≡ P.Refused n p → {X : Type 0} {d : Cur} {end : Analyzer Spot} → Come t names rest₀ at₀ k₀ id₀ w₀ w₀ d end → X
-  coming_halt {r} {n} {p} h q e {d = d} o =
+  pub coming_halt : {r : Result (ℕ × C.Counts) Refusal} {f : Refusal} → (rest ≡ 0 → ⊥) → Passes read_decl t names k at r → r ≡ Err f → {X : Type 0} {d : Cur} {end : Analyzer Spot} → Come t names rest₀ at₀ k₀ id₀ w₀ w₀ d end → X
+  coming_halt {r} {f} h q e {d = d} o =
       let m : rest ≡ suc (rest - 1) = omega arith in
       let y = c.on o in
-      many_case read_decl (rest - 1) t (cursor at names (counts_of k)) (subst (λ (i : ℕ). many read_decl i t (cursor at names (counts_of k)) ≡ got y.xs d) m y.read) λ x b ys g z s. passed_not (read_decl t (cursor at names (counts_of k))) names n p (ap (passed_of names) (sym e) ∙ q.is) g
+      many_case read_decl (rest - 1) t (cursor at names (counts_of k)) (subst (λ (i : ℕ). many read_decl i t (cursor at names (counts_of k)) ≡ got y.xs d) m y.read) λ x b ys g z s. passed_not (read_decl t (cursor at names (counts_of k))) names f (q.is ∙ ap (passed_of names) e) g
 
   pub coming_done : rest ≡ 0 → {d : Cur} {end : Analyzer Spot} → Come t names rest₀ at₀ k₀ id₀ w₀ w₀ d end → Tabled k w₀ w end × (id ≡ end.resolution_id) × (d ≡ cursor at names (counts_of k))
   unfolding many ret in_turn S.ret
@@ -317,7 +315,7 @@ unfolding begin nothing
 come_first p short h = record { xs = p.decls; read = p.read; u = begin; tabled = h; id_is = refl; end_is = refl; few = omega (arith, read_bytes p) }
 
 module _ {t : List ℕ} {l : Layout} {w₀ : List ℕ} {rest at : ℕ} {k : C.Counts} {id : ℕ} {w : List ℕ} (c : Coming t l.names l.count l.first uncounted 1 w₀ rest at k id w) where
-  pub all_halt : {r : Passed} {n p : ℕ} {x : Predeclared} {w' : List ℕ} → (rest ≡ 0 → ⊥) → Passes read_decl t l.names k at r → r ≡ P.Refused n p → PredeclaresAll t l w₀ x w'
+  pub all_halt : {r : Result (ℕ × C.Counts) Refusal} {f : Refusal} {x : Predeclared} {w' : List ℕ} → (rest ≡ 0 → ⊥) → Passes read_decl t l.names k at r → r ≡ Err f → PredeclaresAll t l w₀ x w'
   all_halt h q e = record { does = λ p short z. coming_halt c h q e (come_first p short z) }
 
   pub all_done : rest ≡ 0 → PredeclaresAll t l w₀ (record { counts = k; next_id = id }) w

@@ -4,14 +4,14 @@ use mathlib.Core.Path.{◌≡◌, refl, sym, ap, subst, ◌∙◌}
 use mathlib.Core.List.{List, [], ◌∷◌, ◌++◌, append_assoc, append-nil, flat_map}
 use native.Mathlib.Omega.{arith}
 use lib.ListN.{length}
+use Rattle.std.specs.Prelude.{Result, Ok, Err}
+use Rattle.fields.specs.declared.refusal.Refusal.{Refusal}
 use Rattle.penne.specs.Reader.{Cur, got, many, ret, nothing}
 use Rattle.penne.specs.Tree.{Spot, Decl}
 use Rattle.penne.specs.Read.{read_decl}
 use Rattle.penne.specs.Write.{num_b}
 use Rattle.penne.specs.Containers.{Container, Containment}
 use Rattle.fields.specs.declared.counts.Counts as C
-use Rattle.fields.specs.declared.counts.Passed.{Passed}
-use Rattle.fields.specs.declared.counts.Passed.TheVariants as P
 use Rattle.tree.specs.declared.script.Layout.{Layout}
 use Rattle.fields.specs.Answers.{cursor, counts_of, passed_of, Passes}
 use Rattle.tree.specs.Script.{LaidOut}
@@ -43,20 +43,20 @@ pub record Saying (t work : List ℕ) (script : Script) (names rest₀ at₀ : �
   pub long : length o ≡ length o₀
   pub on : script.names ≡ names → 16384 ≤ length work → (s : Containment Spot) → Holds script.containers (containers_in work) s → {d : Cur} {ys : List ℕ} → Left t script names rest₀ at₀ k₀ s.containers v o₀ v o₀ d ys → Left t script names rest at k s.containers v o₀ w o d ys
 
-pub saying_start : {t work : List ℕ} {script : Script} {names rest at : ℕ} {k : C.Counts} {v : Wrote} {o : List ℕ} → Saying t work script names rest at k v o rest at k v o
-saying_start = record { long = refl; on = λ e long s h l. l }
+pub saying_start : {t work : List ℕ} {script : Script} {names rest₀ rest at : ℕ} {k : C.Counts} {v : Wrote} {o : List ℕ} → rest₀ ≡ rest → Saying t work script names rest₀ at k v o rest at k v o
+saying_start {t} {work} {script} {names} {rest₀} {at = at} {k} {v} {o} e = subst (λ (rest : ℕ). Saying t work script names rest₀ at k v o rest at k v o) e (record { long = refl; on = λ e long s h l. l })
 
 more_rowed : {cs : List (Container Spot)} {r : ℕ} {x : Decl Spot} {xs : List (Decl Spot)} → AllRowed cs r (x ∷ xs) → Rowed cs r x × AllRowed cs (r + (rows_of x).0) xs
 more_rowed (all_more p q) = (p, q)
 
 module _ {t work : List ℕ} {script : Script} {names rest₀ at₀ : ℕ} {k₀ : C.Counts} {v : Wrote} {o₀ : List ℕ} {rest at : ℕ} {k : C.Counts} {w : Wrote} {o : List ℕ} (c : Saying t work script names rest₀ at₀ k₀ v o₀ rest at k w o) where
-  one_said : {r : Passed} {n depth : ℕ} {k' : C.Counts} {w' : Wrote} {o' : List ℕ} (m : ℕ) → rest ≡ suc m → Passes read_decl t names k at r → r ≡ P.To n k' → DepthOf t script k at work depth → Put w (num_b depth) o w' o'
+  one_said : {r : Result (ℕ × C.Counts) Refusal} {n depth : ℕ} {k' : C.Counts} {w' : Wrote} {o' : List ℕ} (m : ℕ) → rest ≡ suc m → Passes read_decl t names k at r → r ≡ Ok (n, k') → DepthOf t script k at work depth → Put w (num_b depth) o w' o'
       → script.names ≡ names → 16384 ≤ length work → (s : Containment Spot) → Holds script.containers (containers_in work) s → {d : Cur} {ys : List ℕ} → Left t script names rest at k s.containers v o₀ w o d ys → Left t script names m n k' s.containers v o₀ w' o' d ys
   unfolding depths_in flat_map
   one_said {r} {n} {depth} {k'} m z p e q put f long s h {d} {ys} l =
       many_case read_decl m t (cursor at names (counts_of k)) (subst (λ (i : ℕ). many read_decl i t (cursor at names (counts_of k)) ≡ got l.xs d) z l.read) λ x b rs g u y.
       let cs = s.containers in
-      let here : b ≡ cursor n names (counts_of k') = passed_to (read_decl t (cursor at names (counts_of k))) (ap (passed_of names) (sym e) ∙ p.is) g in
+      let here : b ≡ cursor n names (counts_of k') = passed_to (read_decl t (cursor at names (counts_of k))) (p.is ∙ ap (passed_of names) e) g in
       let rows = more_rowed (subst (λ (i : List (Decl Spot)). AllRowed cs k.containers i) y l.rowed) in
       let count : k'.containers ≡ k.containers + (rows_of x).0 = ap (λ (i : Cur). i.counts.containers) (sym here) ∙ (passing t (cursor at names (counts_of k)) g).containers in
       let g₁ : read_decl t (cursor at script.names (counts_of k)) ≡ got x b = subst (λ (i : ℕ). read_decl t (cursor at i (counts_of k)) ≡ got x b) (sym f) g in
@@ -72,13 +72,13 @@ module _ {t work : List ℕ} {script : Script} {names rest₀ at₀ : ℕ} {k₀
             ∙ l.all_is;
       }
 
-  pub saying_more : {r : Passed} {n depth : ℕ} {k' : C.Counts} {w' : Wrote} {o' : List ℕ} → (rest ≡ 0 → ⊥) → Passes read_decl t names k at r → r ≡ P.To n k' → DepthOf t script k at work depth → Put w (num_b depth) o w' o' → length o' ≡ length o → Saying t work script names rest₀ at₀ k₀ v o₀ (rest - 1) n k' w' o'
-  saying_more z p e q put l = record { long = l ∙ c.long; on = λ f long s h a. one_said (rest - 1) (omega arith) p e q put f long s h (c.on f long s h a) }
+  pub saying_more : {m : ℕ} {r : Result (ℕ × C.Counts) Refusal} {n depth : ℕ} {k' : C.Counts} {w' : Wrote} {o' : List ℕ} → rest ≡ suc m → Passes read_decl t names k at r → r ≡ Ok (n, k') → DepthOf t script k at work depth → Put w (num_b depth) o w' o' → length o' ≡ length o → Saying t work script names rest₀ at₀ k₀ v o₀ m n k' w' o'
+  saying_more {m} z p e q put l = record { long = l ∙ c.long; on = λ f long s h a. one_said m z p e q put f long s h (c.on f long s h a) }
 
-  left_halt : {r : Passed} {n p : ℕ} {cs : List (Container Spot)} {d : Cur} {ys : List ℕ} {X : Type 0} → (rest ≡ 0 → ⊥) → Passes read_decl t names k at r → r ≡ P.Refused n p → Left t script names rest at k cs v o₀ w o d ys → X
-  left_halt {n = n} {p} {d = d} z q e l =
+  left_halt : {r : Result (ℕ × C.Counts) Refusal} {x : Refusal} {cs : List (Container Spot)} {d : Cur} {ys : List ℕ} {X : Type 0} → (rest ≡ 0 → ⊥) → Passes read_decl t names k at r → r ≡ Err x → Left t script names rest at k cs v o₀ w o d ys → X
+  left_halt {x = f} {d = d} z q e l =
       let m : rest ≡ suc (rest - 1) = omega arith in
-      many_case read_decl (rest - 1) t (cursor at names (counts_of k)) (subst (λ (i : ℕ). many read_decl i t (cursor at names (counts_of k)) ≡ got l.xs d) m l.read) λ x b rs g u y. passed_not (read_decl t (cursor at names (counts_of k))) names n p (ap (passed_of names) (sym e) ∙ q.is) g
+      many_case read_decl (rest - 1) t (cursor at names (counts_of k)) (subst (λ (i : ℕ). many read_decl i t (cursor at names (counts_of k)) ≡ got l.xs d) m l.read) λ x b rs g u y. passed_not (read_decl t (cursor at names (counts_of k))) names f (q.is ∙ ap (passed_of names) e) g
 
   left_done : {cs : List (Container Spot)} {d : Cur} {ys : List ℕ} → rest ≡ 0 → Left t script names rest at k cs v o₀ w o d ys → Put v ys o₀ w o
   unfolding many ret depths_in flat_map
@@ -92,7 +92,7 @@ unfolding nothing
 left_first p rows z = record { xs = p.decls; read = p.read; rowed = rows; done = []; put = put_none z; all_is = refl }
 
 module _ {t work : List ℕ} {script : Script} {l : Layout} {v : Wrote} {o₀ : List ℕ} {rest at : ℕ} {k : C.Counts} {w : Wrote} {o : List ℕ} (c : Saying t work script l.names l.count l.first uncounted v o₀ rest at k w o) where
-  pub said_halt : {r : Passed} {n p : ℕ} {w' : Wrote} {o' : List ℕ} → (rest ≡ 0 → ⊥) → Passes read_decl t l.names k at r → r ≡ P.Refused n p → SaysDepths t script l v work o₀ w' o'
+  pub said_halt : {r : Result (ℕ × C.Counts) Refusal} {x : Refusal} {w' : Wrote} {o' : List ℕ} → (rest ≡ 0 → ⊥) → Passes read_decl t l.names k at r → r ≡ Err x → SaysDepths t script l v work o₀ w' o'
   said_halt z q e = record { does = λ p f long s h rows within. left_halt c z q e (c.on f long s h (left_first p rows within)) }
 
   pub said_done : rest ≡ 0 → SaysDepths t script l v work o₀ w o

@@ -8,19 +8,19 @@ use lib.Dec.{eqb, ltb}
 use lib.ListN.{length, get_or, take, drop, length-append, get_or-append}
 use lib.Seq.{get_or-append_seam}
 use borrow.Author.Tests.{ltb-true, ltb-false, eq-eqb, ne_eqb}
+use Rattle.std.specs.Prelude.{Result, Ok, Err}
+use Rattle.fields.specs.declared.refusal.Refusal.{Refusal}
 use Rattle.penne.specs.Reader.{Cur, got, ret, such, num, raw, nothing}
 use Rattle.penne.specs.Read.{same_bytes, among_names, read_names}
 use Rattle.penne.specs.Variables.{is_main}
 use Rattle.penne.proofs.Booleans.{true_false}
-use Rattle.fields.specs.declared.number.Read.{Read}
-use Rattle.fields.specs.declared.number.Read.TheVariants.{Number, Refused}
 use Rattle.tree.specs.declared.script.Layout.{Layout}
 use Rattle.fields.specs.Answers.{cursor, number_of, Gives}
 use Rattle.tree.specs.Script.{LaidOut}
-use Rattle.name_table.proofs.Names.{same_eq, refused_not}
+use Rattle.name_table.proofs.Names.{same_eq}
 use Rattle.walk.proofs.Leading.{never, same_value, bind_got, such_got}
 use Rattle.stages.specs.Stages.{MainName}
-use Rattle.stages.proofs.Naming.{OneName, one_name, told_one, same_table}
+use Rattle.stages.proofs.Naming.{refused_not, same_read, OneName, one_name, told_one, same_table}
 
 -- "the four bytes of `main`"
 abbrev main : List ℕ
@@ -93,29 +93,27 @@ pub record Seeking (s : List ℕ) (n at₀ k at : ℕ) : Type 0 where
 pub seeking_start : {s : List ℕ} {n at : ℕ} → Seeking s n at 0 at
 seeking_start {s} {n} {at} = let e : n ≡ n - 0 = omega arith in record { within = omega arith; on = λ {x} {d} q. record { before = []; read = subst (λ (i : ℕ). read_names i [] s (cursor at 0 nothing) ≡ got x d) e q; count = refl; only = λ i h. absurd (omega arith) } }
 
-module _ {s : List ℕ} {n at₀ k at : ℕ} (c : Seeking s n at₀ k at) {r : Read} (g : Gives num s at r) (z : k < n) where
+module _ {s : List ℕ} {n at₀ k at : ℕ} (c : Seeking s n at₀ k at) {r : Result (ℕ × ℕ) Refusal} (g : Gives num s at r) (z : k < n) where
   -- the name that comes next
   next : {x : List (List ℕ)} {d : Cur} (l : Sought s n k at x d) → OneName s at (n - (k + 1)) l.before x d
   next {x} {d} l = let e : n - k ≡ suc (n - (k + 1)) = omega arith in one_name g (subst (λ (i : ℕ). read_names i l.before s (cursor at 0 nothing) ≡ got x d) e l.read)
 
   module _ (f : num s (cursor 0 0 nothing) ≡ got n (cursor at₀ 0 nothing)) where
-    next_told : {l : Layout} (t : LaidOut s l) {X : Type 0} → ((b : List (List ℕ)) (m : OneName s at (n - (k + 1)) b t.table t.behind) → r ≡ Number m.n m.from → X) → X
+    next_told : {l : Layout} (t : LaidOut s l) {X : Type 0} → ((b : List (List ℕ)) (m : OneName s at (n - (k + 1)) b t.table t.behind) → r ≡ Ok (m.n, m.from) → X) → X
     next_told t h = same_table f t λ q. let l = c.on q in let m = next l in h l.before m (told_one g m)
 
-    pub seeking_unread : {i p v : ℕ} → r ≡ Refused i p → MainName s v
+    pub seeking_unread : {v : ℕ} {x : Refusal} → r ≡ Err x → MainName s v
     seeking_unread e = record { is = λ i t j h. next_told t λ b m q. refused_not (sym e ∙ q) }
 
-    module _ {m from : ℕ} (e : r ≡ Number m from) where
-      pub seeking_large : {v : ℕ} → 64 < m → MainName s v
-      seeking_large h = record { is = λ i t j u. next_told t λ b y q. let k : m ≡ y.n = cc in absurd (omega (arith, y.few)) }
+    module _ {m from : ℕ} (e : r ≡ Ok (m, from)) where
+      -- no name is that long, or that far behind
+      pub seeking_never : {v : ℕ} → (m ≤ 64 → 65535 < from) → MainName s v
+      seeking_never h = record { is = λ i t j u. next_told t λ b y q. let told = same_read (sym e ∙ q) in let k = told.0 in let p = told.1 in absurd (omega (arith, h, y.few, y.inside, i.short)) }
 
-      pub seeking_far : {v : ℕ} → 65535 < from → MainName s v
-      seeking_far h = record { is = λ i t j u. next_told t λ b y q. let k : from ≡ y.from = cc in absurd (omega (arith, y.inside, i.short)) }
-
-  module _ {m from : ℕ} (e : r ≡ Number m from) {v : List ℕ} (w : v ≡ take m (drop from s)) {b : Bool} (same : b ≡ same_bytes v main) where
+  module _ {m from : ℕ} (e : r ≡ Ok (m, from)) {v : List ℕ} (w : v ≡ take m (drop from s)) {b : Bool} (same : b ≡ same_bytes v main) where
     -- the code compares the name that is read
     seen : {x : List (List ℕ)} {d : Cur} {a : List (List ℕ)} (y : OneName s at (n - (k + 1)) a x d) → take m (drop from s) ≡ take y.n (drop y.from s)
-    seen y = let told = sym e ∙ told_one g y in let i : m ≡ y.n = cc in let j : from ≡ y.from = cc in λ z. take (i z) (drop (j z) s)
+    seen y = let told = same_read (sym e ∙ told_one g y) in λ z. take (told.0 z) (drop (told.1 z) s)
 
     pub seeking_found : num s (cursor 0 0 nothing) ≡ got n (cursor at₀ 0 nothing) → b ≡ true → MainName s k
     seeking_found f h = record {
@@ -144,10 +142,8 @@ module _ {s : List ℕ} {n at₀ k at : ℕ} (c : Seeking s n at₀ k at) {r : R
           let name = take y.n (drop y.from s) in
           let count = l.count in
           let other : same_bytes name main ≡ eqb (length l.before) n = ap (λ (x : List ℕ). same_bytes x main) (sym (w ∙ seen y)) ∙ sym same ∙ h ∙ sym (ne_eqb (length l.before) n (λ p. omega arith)) in
-          let told = sym e ∙ told_one g y in
-          let i : y.n ≡ m = cc in
-          let j : y.from ≡ from = cc in
-          let to : y.from + y.n ≡ from + m = cc in
+          let told = same_read (sym e ∙ told_one g y) in
+          let to : y.from + y.n ≡ from + m = sym (λ i. told.1 i + told.0 i) in
           record {
             before = l.before ++ (name ∷ []);
             read = subst (λ (p : ℕ). read_names (n - (k + 1)) (l.before ++ (name ∷ [])) s (cursor p 0 nothing) ≡ got x d) to y.then;
@@ -169,6 +165,5 @@ seeking_none {s} {n} {k = k} {at} c f z = record {
       subst (λ (x : List (List ℕ)). is_main x j ≡ eqb j n) (same_value e) (l.only j (omega arith));
 }
 
-pub main_uncounted : {s : List ℕ} {r : Read} {i p v : ℕ} → Gives num s 0 r → r ≡ Refused i p → MainName s v
-unfolding number_of
-main_uncounted g e = record { is = λ i t j h. never (sym (sym (g.is 0 nothing) ∙ ap (number_of 0 nothing) e) ∙ t.counted) }
+pub main_uncounted : {s : List ℕ} {r : Result (ℕ × ℕ) Refusal} {v : ℕ} {x : Refusal} → Gives num s 0 r → r ≡ Err x → MainName s v
+main_uncounted g e = record { is = λ i t j h. never (sym (g.is 0 nothing ∙ ap (number_of 0 nothing) e) ∙ t.counted) }

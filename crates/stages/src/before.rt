@@ -2,22 +2,15 @@
 ghost use Rattle.std.specs.Prelude.{◌<◌};
 ghost use Rattle.stages.specs.Before.{ContainerBefore, FunctionBefore, DeclaredBefore};
 
-use containers::containers::Found;
 use fields::field::Identifier;
 use walk::edges::{container_at, find_in};
 use walk::fault::{Fault, duplicate};
 use walk::names::{find_function_in, function_at};
 use walk::state::Walk;
 
-// Was the name declared before?
-#[derive(Clone, Copy)]
-pub enum Before {
-    Yes(Fault),
-    No,
-}
-
-pub fn declared_before(work: &[u32], st: Walk, kind: u32, i: Identifier) -> Before
-    ensures { DeclaredBefore kind st i work.now result }
+// The poison in the place of a declaration whose name was declared before it.
+pub fn declared_before(work: &[u32], st: &Walk, kind: u32, i: Identifier) -> Option<Fault>
+    ensures { DeclaredBefore kind st.now i work.now result }
 {
     match kind {
         0 => container_before(work, st, 0, 3, i),
@@ -27,31 +20,25 @@ pub fn declared_before(work: &[u32], st: Walk, kind: u32, i: Identifier) -> Befo
 }
 
 // DuplicateDeclaration of a constant (3) or a structure (8). This declaration's row is what is counted before it.
-fn container_before(work: &[u32], st: Walk, kind: u32, poison: u32, i: Identifier) -> Before
-    ensures { ContainerBefore kind poison st i work.now result }
+fn container_before(work: &[u32], st: &Walk, kind: u32, poison: u32, i: Identifier) -> Option<Fault>
+    ensures { ContainerBefore kind poison st.now i work.now result }
 {
-    let found = find_in(work, st.script, kind, i.name);
-    let Found::At(row) = found else {
-        return Before::No;
-    };
+    let row = find_in(work, st.script, kind, i.name)?;
     if row < st.counts.containers as usize {
-        let j = container_at(work, row);
-        return Before::Yes(duplicate(poison, i, j.place));
+        let earlier = container_at(work, row);
+        return Some(duplicate(poison, i, earlier.place));
     }
-    Before::No
+    None
 }
 
 // DuplicateDeclaration of a function, kind 7.
-fn function_before(work: &[u32], st: Walk, i: Identifier) -> Before
-    ensures { FunctionBefore st i work.now result }
+fn function_before(work: &[u32], st: &Walk, i: Identifier) -> Option<Fault>
+    ensures { FunctionBefore st.now i work.now result }
 {
-    let found = find_function_in(work, st, i.name);
-    let Found::At(row) = found else {
-        return Before::No;
-    };
+    let row = find_function_in(work, st.script, i.name)?;
     if row < st.counts.functions as usize {
-        let j = function_at(work, row);
-        return Before::Yes(duplicate(7, i, j.place));
+        let earlier = function_at(work, row);
+        return Some(duplicate(7, i, earlier.place));
     }
-    Before::No
+    None
 }

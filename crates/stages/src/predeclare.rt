@@ -5,9 +5,9 @@ ghost use Rattle.stages.specs.Stages.{Pushed, Predeclares, PredeclaresAll};
 use super::heads::{Head, read_head};
 use containers::containers::{Declared, push_container};
 use containers::functions::push_function;
-use fields::counts::{Counts, Passed};
+use fields::counts::Counts;
 use fields::field::Identifier;
-use fields::number::{Read, below};
+use fields::number::below;
 use memory::layout::{CONTAINERS, CONTAINERS_END, FUNCTIONS, FUNCTIONS_END, WORDS};
 use memory::words::next;
 use tree::ends::past;
@@ -24,52 +24,36 @@ pub fn predeclare_all(tree: &[u8], work: &mut [u32], ends: &[u32], layout: Layou
     ensures { Known tree.now layout.names ends.now → PredeclaresAll tree.now layout work.old result work.new }
 {
     let names = layout.names;
-    let mut rest = layout.count;
     let mut at = layout.first;
-    let mut so_far = Counts {
-        containers: 0,
-        functions: 0,
-        entries: 0,
-        statements: 0,
-    };
+    let mut counts = Counts::NONE;
     let mut next_id = 1u32;
-    while rest != 0 {
-        next_id = predeclare(tree, work, names, so_far, at, next_id);
-        let one = past(tree, ends, names, so_far, at, rest);
-        let Passed::To(behind, more) = one else {
-            return Predeclared {
-                counts: so_far,
-                next_id: next_id,
-            };
+    for i in 0..layout.count {
+        next_id = predeclare(tree, work, names, counts, at, next_id);
+        let Ok((behind, more)) = past(tree, ends, names, counts, at, layout.count - i) else {
+            return Predeclared { counts, next_id };
         };
         at = behind;
-        so_far = more;
-        rest -= 1;
+        counts = more;
     }
-    Predeclared {
-        counts: so_far,
-        next_id: next_id,
-    }
+    Predeclared { counts, next_id }
 }
 
 // The declaration at `at`; answers the id after it.
 fn predeclare(tree: &[u8], work: &mut [u32], names: u32, counts: Counts, at: usize, id: u32) -> u32
     ensures { Predeclares tree.now names counts at id work.old result work.new }
 {
-    let kind = below(tree, 6, at);
-    let Read::Number(k, a) = kind else {
+    let Ok((kind, at)) = below(tree, 6, at) else {
         return id;
     };
-    let head = read_head(tree, names, a, k);
+    let Ok(head) = read_head(tree, names, at, kind) else {
+        return id;
+    };
     match head {
         Head::Named(h) => {
-            let i = h.identifier;
-            push(work, k, counts, i, id);
+            push(work, kind, counts, h.identifier, id);
             next(id)
         }
-        Head::Import => id,
-        Head::Poison => id,
-        Head::Unread => id,
+        Head::Import | Head::Poison => id,
     }
 }
 
@@ -82,13 +66,12 @@ fn push(work: &mut [u32], kind: u32, counts: Counts, i: Identifier, id: u32)
     let declared = Declared {
         name: i.name,
         place: i.place,
-        id: id,
+        id,
     };
     let row = counts.containers as usize;
     let place = counts.functions as usize;
     match kind {
-        0 => push_container(&mut work[CONTAINERS..CONTAINERS_END], row, 0, declared),
-        3 => push_container(&mut work[CONTAINERS..CONTAINERS_END], row, 3, declared),
+        0 | 3 => push_container(&mut work[CONTAINERS..CONTAINERS_END], row, kind, declared),
         _ => push_function(&mut work[FUNCTIONS..FUNCTIONS_END], place, declared),
     }
 }

@@ -4,21 +4,26 @@ use mathlib.Core.Bool.{Bool, true, false, ◌&&◌}
 use mathlib.Core.List.{List, append_assoc, append-nil}
 use Prim.Native.Nat.{ℕ}
 use native.Mathlib.Omega.{arith}
-use Rattle.penne.specs.Tree.{Spot, Ident, Stm, StmSort}
-use Rattle.penne.specs.Read.{to_stms}
+use Rattle.std.specs.Prelude.{Result, Err}
+use Rattle.fields.specs.declared.field.Identifier.{Identifier}
+use Rattle.fields.specs.declared.refusal.Refusal.{Refusal}
+use Rattle.penne.specs.Reader.{Reader, ◌>>=◌, num}
+use Rattle.penne.specs.Tree.{Spot, Ident, stmt, Stm, StmSort}
+use Rattle.penne.specs.Read.{place, ident, to_stms}
 use Rattle.penne.specs.Write.{stm_b}
 use Rattle.penne.specs.State as S
 use Rattle.penne.specs.Scopes.{Analyzer}
 use Rattle.penne.specs.Variables.{analyze_stm}
 use Rattle.penne.proofs.IdsPass.{grown_stm}
 use Rattle.penne.proofs.Booleans.{and-true as and_yes}
+use Rattle.fields.specs.Answers.{Gives, Identifies}
 use Rattle.label_references.specs.Marked.{marked}
 use Rattle.containers.proofs.Lists.{and_true}
 use Rattle.walk.specs.Walking.{Rest, Ground, Good, Is}
-use Rattle.walk.proofs.Leading.{Listed}
+use Rattle.walk.proofs.Leading.{Listed, leads_unidentified, leads_unplace}
 use Rattle.walk.specs.declared.state.Walk.{Walk}
 use Rattle.walk.proofs.Writing.{counted}
-use Rattle.statement_parts.specs.Stating.{is_free, fits, leaving, stm_walk, behind}
+use Rattle.statement_parts.specs.Stating.{is_free, fits, leaving, stm_walk, behind, Follows}
 use Rattle.statement_parts.proofs.Free.{free_same, within_stm}
 
 -- grounds that are put together otherwise
@@ -79,3 +84,14 @@ good_unbehind a z = record { few = z.few; fit = sym (and_yes a.rest.fit) ∙ z.f
 pub fitting : {s : Walk} {o l w : List ℕ} {a : Ground} (b : Bool) → Is s o l w a → Is s o l w (record { out = a.out; st = a.st; rest = leaving a.rest.words b a.rest })
 unfolding leaving
 fitting {s} {a = a} b i = counted i {k = s.counts} (leaving a.rest.words b a.rest) (omega arith) refl refl refl (λ f. (and_true _ _ f).0) (λ f m. record { told = m.told; named = m.named; labels = m.labels; containers = m.containers; functions = m.functions; main = m.main }) (record { is = refl })
+
+-- A STATEMENT THAT CAN NOT BE READ
+
+module _ {P : Ground → Type 0} {t : List ℕ} {s : Walk} {o l w : List ℕ} {r : Walk} {o' l' w' : List ℕ} where
+  -- its place
+  pub unplaced : (f : Spot → Reader (Stm Spot stmt)) {m₁ : Result (ℕ × ℕ) Refusal} {x : Refusal} → Gives num t s.at m₁ → m₁ ≡ Err x → Follows P t (place >>= f) s o l w r o' l' w'
+  unplaced f g e = record { does = λ h a p i. leads_unplace f g e }
+
+  -- its name
+  pub unnamed : (f : Ident Spot → Reader (Stm Spot stmt)) {r₁ : Result (Identifier × ℕ) Refusal} {x : Refusal} → Identifies t s.script.names s.at r₁ → r₁ ≡ Err x → Follows P t (ident >>= f) s o l w r o' l' w'
+  unnamed f g e = record { does = λ h a p i. leads_unidentified f g e }

@@ -8,6 +8,8 @@ use lib.Dec.{leb, eqb}
 use lib.ListN.{length, get_or}
 use borrow.Author.Tests.{le-leb, lt-leb, leb-true, eqb-true}
 use borrow.Rule.Slice.PartMut.{put_mid}
+use Rattle.std.specs.Prelude.{Result, Ok, Err}
+use Rattle.fields.specs.declared.refusal.Refusal.{Refusal}
 use Rattle.penne.specs.Reader.{num}
 use Rattle.penne.specs.Find.{resolved}
 use Rattle.penne.specs.Tree.{Spot, Ident, poison, stmt, Stm, goto, label, bad_stmt}
@@ -16,11 +18,7 @@ use Rattle.penne.specs.Write.{num_b, place_b, poison_b, stm_b}
 use Rattle.penne.specs.State as S
 use Rattle.penne.specs.Scopes.{with_prunings, prepare_to_prune_at_goto, prune_at_label}
 use Rattle.penne.specs.Variables.{analyze_stm}
-use Rattle.fields.specs.declared.number.Read.{Read}
-use Rattle.fields.specs.declared.number.Read.TheVariants.{Number, Refused}
 use Rattle.fields.specs.declared.field.Identifier.{Identifier}
-use Rattle.fields.specs.declared.field.Identified.{Identified}
-use Rattle.fields.specs.declared.field.Identified.TheVariants as I
 use Rattle.fields.specs.declared.counts.Counts as K
 use Rattle.fields.specs.Answers.{ident_of, Gives, Identifies, poison_names, poison_places}
 use Rattle.answer.specs.declared.wrote.Wrote.{Wrote}
@@ -33,12 +31,14 @@ use Rattle.label_references.specs.Marked.{place_of, marked_goto, marked_label, m
 use Rattle.containers.proofs.Lists.{and_true}
 use Rattle.walk.specs.declared.state.Walk.{Walk}
 use Rattle.walk.specs.declared.fault.Fault.{Fault}
+use Rattle.walk.specs.declared.fault.Fault.TheVariants as F
 use Rattle.answer.specs.Parts.{resolved_to}
-use Rattle.walk.specs.Walking.{Moves, Writes, scopes_in, Rest, Ground, Good, Marks, Is, silently, say, fault_b, undefined_fault, label_fault, made_b}
-use Rattle.walk.proofs.Leading.{leads_identified, leads_unidentified, leads_place, leads_unplace, leads_end, is_same}
+use Rattle.walk.specs.Walking.{moved_to, with_wrote, scopes_in, Rest, Ground, Good, Marks, Is, silently, say, fault_b, label_fault, made_b}
+use Rattle.walk.proofs.Leading.{leads_identified, leads_place, leads_unplace, leads_end, is_same}
 use Rattle.walk.proofs.Faults.{undefined_bytes}
 use Rattle.walk.proofs.Jumping.{short_is, prepared_is, pruned_is}
-use Rattle.expression_parts.proofs.Onward.{out_same, on, leads_on}
+use Rattle.walk.proofs.Writing.{wrote_on}
+use Rattle.expression_parts.proofs.Onward.{out_same}
 use Rattle.statement_parts.specs.Stating.{same_label, fit_goto, fit_label, fits, leaving, stm_walk, behind, Follows, Worded, Prepares, Prunes, LabelPlace}
 use Rattle.statement_parts.proofs.Fit.{ground_same, leaving_twice, good_before, good_behind}
 use Rattle.statement_parts.proofs.Fit.{fitting}
@@ -50,7 +50,7 @@ pub prepare_short : {s : Walk} {id place : ℕ} {w : List ℕ} → length w < 16
 unfolding prepare_to_prune_at_goto with_prunings
 prepare_short h = record { is = λ i p e q low high j. short_is j _ (λ z. record { few = z.few; fit = z.fit }) h }
 
-pub prepare_none : {s : Walk} {id place : ℕ} {w w' : List ℕ} → id ≡ 0 → Prepares s id place w w'
+pub prepare_none : {s : Walk} {id place : ℕ} {w : List ℕ} → id ≡ 0 → Prepares s id place w w
 prepare_none h = record { is = λ i p e q low high j. absurd (omega arith) }
 
 pub prepare_is : {s : Walk} {id place : ℕ} {w ys : List ℕ} → J.Prepares (id - 1) place s.tables.next_id (scopes_in w) ys → Prepares s id place w (put_mid 2048 11264 w ys)
@@ -120,7 +120,7 @@ goto_walk : (x : Ident Spot) (p : Spot) (a : Ground) (o : ℕ) → front a.rest.
 unfolding stm_walk marked fits
 goto_walk x p a o e = ap (λ (o : ℕ). record { out = a.out ++ stm_b (analyze_stm (marked_goto x p o) a.st).0; st = (analyze_stm (marked_goto x p o) a.st).1; rest = leaving (rest a.rest.words) (fit_goto a.rest.labels o) a.rest }) e
 
-goto_bad : (j : Identifier) (from : ℕ) (p : Spot) (a : Ground) → front a.rest.words ≡ 0 → say (num_b 8 ++ fault_b (undefined_fault 2 j)) (behind a) ≡ stm_walk stm_b (goto (ident_of from j) p) a
+goto_bad : (j : Identifier) (from : ℕ) (p : Spot) (a : Ground) → front a.rest.words ≡ 0 → say (num_b 8 ++ fault_b (F.UndefinedLabel j.name j.place)) (behind a) ≡ stm_walk stm_b (goto (ident_of from j) p) a
 unfolding behind marked_goto fit_goto analyze_stm stm_b S.ret poison_names poison_places poison_fields
 goto_bad j from p a e =
     ground_same (ap (λ (ys : List ℕ). a.out ++ (num_b 8 ++ ys)) (undefined_bytes 2 j from refl refl)) (ap (λ (b : Bool). leaving (rest a.rest.words) b a.rest) (sym (le-leb 0 (length a.rest.labels) (omega arith)))) ∙ sym (goto_walk (ident_of from j) p a 0 e)
@@ -137,31 +137,27 @@ goto_is j from id p a h e =
     out_same (ap (λ (ys : List ℕ). a.out ++ (num_b 4 ++ (ys ++ num_b p.number))) (identifier_bytes (ident_of from (resolved_to j id 0))))
     ∙ sym (goto_walk (ident_of from j) p a id e ∙ ap (λ (t : Stm Spot stmt). record { out = a.out ++ stm_b (analyze_stm t a.st).0; st = (analyze_stm t a.st).1; rest = leaving (rest a.rest.words) (fit_goto a.rest.labels id) a.rest }) (marked_to (ident_of from j) p id h))
 
-module _ {t : List ℕ} {s : Walk} {r₁ : Identified} (g : Identifies t s.script.names s.at r₁) (f : Ident Spot → Spot → Stm Spot stmt) {P : Ground → Type 0} {o l w : List ℕ} {r : Walk} {o' l' w' : List ℕ} where
-  pub jump_not : {i p : ℕ} → r₁ ≡ I.Not i p → Follows P t (read_jump f) s o l w r o' l' w'
-  unfolding read_jump
-  jump_not e = record { does = λ h a p i. leads_unidentified _ g e }
-
-  pub jump_unread : {j : Identifier} {n : ℕ} {m₁ : Read} {i p : ℕ} → r₁ ≡ I.Is j n → Gives num t n m₁ → m₁ ≡ Refused i p → Follows P t (read_jump f) s o l w r o' l' w'
+module _ {t : List ℕ} {s : Walk} {r₁ : Result (Identifier × ℕ) Refusal} (g : Identifies t s.script.names s.at r₁) (f : Ident Spot → Spot → Stm Spot stmt) {P : Ground → Type 0} {o l w : List ℕ} {r : Walk} {o' l' w' : List ℕ} where
+  pub jump_unread : {j : Identifier} {n : ℕ} {m₁ : Result (ℕ × ℕ) Refusal} {x : Refusal} → r₁ ≡ Ok (j, n) → Gives num t n m₁ → m₁ ≡ Err x → Follows P t (read_jump f) s o l w r o' l' w'
   unfolding read_jump
   jump_unread e g₁ q = record { does = λ h a p i. leads_identified _ g e (leads_unplace _ g₁ q) }
 
-module _ {t : List ℕ} {s : Walk} {r₁ : Identified} (g : Identifies t s.script.names s.at r₁) {j : Identifier} {n : ℕ} (e : r₁ ≡ I.Is j n) {m₁ : Read} (g₁ : Gives num t n m₁) {v b : ℕ} (q : m₁ ≡ Number v b) {k id : ℕ} {o l w : List ℕ} (h : Shows w 0 k id) where
-  pub goto_undefined : {u : Fault} {x : Wrote} {s₁ r : Walk} {o' : List ℕ} → id ≡ 0 → u ≡ undefined_fault 2 j → Put s.wrote (num_b 8 ++ fault_b u) o x o' → Writes s x s₁ → Moves s₁ b r → Follows (Worded k w) t (read_jump goto) s o l w r o' l w
+module _ {t : List ℕ} {s : Walk} {r₁ : Result (Identifier × ℕ) Refusal} (g : Identifies t s.script.names s.at r₁) {j : Identifier} {n : ℕ} (e : r₁ ≡ Ok (j, n)) {m₁ : Result (ℕ × ℕ) Refusal} (g₁ : Gives num t n m₁) {v b : ℕ} (q : m₁ ≡ Ok (v, b)) {k id : ℕ} {o l w : List ℕ} (h : Shows w 0 k id) where
+  pub goto_undefined : {x : Wrote} {o' : List ℕ} → id ≡ 0 → Put s.wrote (num_b 8 ++ fault_b (F.UndefinedLabel j.name j.place)) o x o' → Follows (Worded k w) t (read_jump goto) s o l w (moved_to (with_wrote s x) b) o' l w
   unfolding read_jump
-  goto_undefined {x = x} {o' = o'} z y put wr mv = record {
-    does = λ _ a d i. leads_identified _ g e (leads_place _ g₁ q (leads_on wr mv (leads_end (goto _ _) refl (on i (subst (λ (u : Fault). Put s.wrote (num_b 8 ++ fault_b u) o x o') y put) wr mv) λ c. goto_bad j s.at _ a (shown h d (good_behind a (good_before stm_b _ a c)) ∙ z))));
+  goto_undefined z put = record {
+    does = λ _ a d i. leads_identified _ g e (leads_place _ g₁ q (leads_end (goto _ _) refl (wrote_on i put) λ c. goto_bad j s.at _ a (shown h d (good_behind a (good_before stm_b _ a c)) ∙ z)));
   }
 
-  pub goto_label : {i : Identifier} {x : Wrote} {s₁ r : Walk} {o' w' : List ℕ} → (id ≡ 0 → ⊥) → Prepares s id v w w' → i ≡ resolved_to j id 0 → Put s.wrote (num_b 4 ++ (made_b i ++ num_b v)) o x o' → Writes s x s₁ → Moves s₁ b r → Follows (Worded k w) t (read_jump goto) s o l w r o' l w'
+  pub goto_label : {i : Identifier} {x : Wrote} {o' w' : List ℕ} → (id ≡ 0 → ⊥) → Prepares s id v w w' → i ≡ resolved_to j id 0 → Put s.wrote (num_b 4 ++ (made_b i ++ num_b v)) o x o' → Follows (Worded k w) t (read_jump goto) s o l w (moved_to (with_wrote s x) b) o' l w'
   unfolding read_jump resolved fit_goto leaving
-  goto_label {x = x} {o' = o'} z pr y put wr mv = record {
+  goto_label {x = x} {o' = o'} z pr y put = record {
     does = λ _ a d i.
         let to = resolved (ident_of s.at j) id 0 in
         let p : Spot = record { number = v; from = n } in
         let low : 0 < id = omega arith in
         let i₁ = pr.is to p refl refl low (λ c. let m = (i.when (good_fitted a _ c)).marks in let few = few_labels a m in let le = leb-true id (length a.rest.labels) (and_true a.rest.fit (leb id (length a.rest.labels)) c.fit).1 in omega (arith, few, le)) (fitted a (fit_goto a.rest.labels id) i) in
-        leads_identified _ g e (leads_place _ g₁ q (leads_on wr mv (leads_end (goto _ _) refl (on i₁ (subst (λ (u : Identifier). Put s.wrote (num_b 4 ++ (made_b u ++ num_b v)) o x o') y put) wr mv) λ c. goto_is j s.at id p a low (shown h d (good_behind a (good_before stm_b _ a c))))));
+        leads_identified _ g e (leads_place _ g₁ q (leads_end (goto _ _) refl (wrote_on i₁ (subst (λ (u : Identifier). Put s.wrote (num_b 4 ++ (made_b u ++ num_b v)) o x o') y put)) λ c. goto_is j s.at id p a low (shown h d (good_behind a (good_before stm_b _ a c)))));
   }
 
 -- LABEL
@@ -228,41 +224,30 @@ own_named : {c : K.Counts} {w : List ℕ} (a : Ground) → Marks c w (behind a).
 unfolding behind leaving resolved
 own_named a m x id own = same_labelled m x own.low own.high own.same (resolved x id 1) refl refl
 
-module _ {t : List ℕ} {s : Walk} {r₁ : Identified} (g : Identifies t s.script.names s.at r₁) {j : Identifier} {n : ℕ} (e : r₁ ≡ I.Is j n) {m₁ : Read} (g₁ : Gives num t n m₁) {v b : ℕ} (q : m₁ ≡ Number v b) {k id : ℕ} {o l w : List ℕ} (h : Shows w 0 k id) where
-  pub label_twice : {before : ℕ} {u : Fault} {x : Wrote} {s₁ r : Walk} {o' : List ℕ} → 1024 < id → LabelPlace (id - 1024) w before → u ≡ label_fault j before → Put s.wrote (num_b 8 ++ fault_b u) o x o' → Writes s x s₁ → Moves s₁ b r → Follows (Worded k w) t (read_jump label) s o l w r o' l w
+module _ {t : List ℕ} {s : Walk} {r₁ : Result (Identifier × ℕ) Refusal} (g : Identifies t s.script.names s.at r₁) {j : Identifier} {n : ℕ} (e : r₁ ≡ Ok (j, n)) {m₁ : Result (ℕ × ℕ) Refusal} (g₁ : Gives num t n m₁) {v b : ℕ} (q : m₁ ≡ Ok (v, b)) {k id : ℕ} {o l w : List ℕ} (h : Shows w 0 k id) where
+  pub label_twice : {before : ℕ} {u : Fault} {x : Wrote} {o' : List ℕ} → 1024 < id → LabelPlace (id - 1024) w before → u ≡ label_fault j before → Put s.wrote (num_b 8 ++ fault_b u) o x o' → Follows (Worded k w) t (read_jump label) s o l w (moved_to (with_wrote s x) b) o' l w
   unfolding read_jump
-  label_twice {before} {x = x} {o' = o'} z lp y put wr mv = record {
+  label_twice {before} {x = x} {o' = o'} z lp y put = record {
     does = λ _ a d i.
         let all = a.rest.labels in
         let me = ident_of s.at j in
-        leads_identified _ g e (leads_place _ g₁ q (leads_on wr mv (leads_end (label _ _) refl (on (fitted a (fit_label all me id) i) (subst (λ (u : Fault). Put s.wrote (num_b 8 ++ fault_b u) o x o') y put) wr mv) λ c.
+        leads_identified _ g e (leads_place _ g₁ q (leads_end (label _ _) refl (wrote_on (fitted a (fit_label all me id) i) (subst (λ (u : Fault). Put s.wrote (num_b 8 ++ fault_b u) o x o') y put)) λ c.
         let c₀ = good_behind a (good_before stm_b (label me (record { number = v; from = n })) a c) in
         let word = shown h d c₀ in
         let m = (i.when c₀).marks in
         let few = few_labels a m in
         let fit : fit_label all me id ≡ true = ap (fit_label all me) (sym word) ∙ fit_of me (record { number = v; from = n }) a c in
         let high = late_fits all me id z fit in
-        label_bad j s.at id before (record { number = v; from = n }) a z word (lp.is (omega (arith, few, high)) (omega (arith, few, high)) ∙ late_place a m me (id - 1024) (omega (arith, few, high)) high))));
+        label_bad j s.at id before (record { number = v; from = n }) a z word (lp.is (omega (arith, few, high)) (omega (arith, few, high)) ∙ late_place a m me (id - 1024) (omega (arith, few, high)) high)));
   }
 
-  pub label_goes : {i : Identifier} {x : Wrote} {s₁ r : Walk} {o' w' : List ℕ} → id ≤ 1024 → Prunes s id w w' → i ≡ resolved_to j id 1 → Put s.wrote (num_b 5 ++ (made_b i ++ num_b v)) o x o' → Writes s x s₁ → Moves s₁ b r → Follows (Worded k w) t (read_jump label) s o l w r o' l w'
+  pub label_goes : {i : Identifier} {x : Wrote} {o' w' : List ℕ} → id ≤ 1024 → Prunes s id w w' → i ≡ resolved_to j id 1 → Put s.wrote (num_b 5 ++ (made_b i ++ num_b v)) o x o' → Follows (Worded k w) t (read_jump label) s o l w (moved_to (with_wrote s x) b) o' l w'
   unfolding read_jump resolved leaving
-  label_goes {x = x} {o' = o'} le pr y put wr mv = record {
+  label_goes {x = x} {o' = o'} le pr y put = record {
     does = λ _ a d i.
         let all = a.rest.labels in
         let me = ident_of s.at j in
         let p : Spot = record { number = v; from = n } in
         let i₁ = pr.is (resolved me id 1) refl (λ c. let own = own_fits all me id le (and_true a.rest.fit (fit_label all me id) c.fit).1 in (own.low, (le, own_named a (i.when (good_fitted a _ c)).marks me id own))) (fitted a (fit_label all me id) i) in
-        leads_identified _ g e (leads_place _ g₁ q (leads_on wr mv (leads_end (label _ _) refl (on i₁ (subst (λ (u : Identifier). Put s.wrote (num_b 5 ++ (made_b u ++ num_b v)) o x o') y put) wr mv) λ c. label_is j s.at id p a le (shown h d (good_behind a (good_before stm_b _ a c))))));
+        leads_identified _ g e (leads_place _ g₁ q (leads_end (label _ _) refl (wrote_on i₁ (subst (λ (u : Identifier). Put s.wrote (num_b 5 ++ (made_b u ++ num_b v)) o x o') y put)) λ c. label_is j s.at id p a le (shown h d (good_behind a (good_before stm_b _ a c)))));
   }
-
--- A LABEL'S PLACE
-
-pub place_low : {id r : ℕ} {w : List ℕ} → id ≡ 0 → LabelPlace id w r
-place_low e = record { is = λ low high. absurd (omega arith) }
-
-pub place_high : {id r : ℕ} {w : List ℕ} → 1024 < id → LabelPlace id w r
-place_high h = record { is = λ low high. absurd (omega arith) }
-
-pub place_is : {id r : ℕ} {w : List ℕ} → r ≡ get_or w (2048 + 1024 + (id - 1)) 0 → LabelPlace id w r
-place_is {id} {r} {w} e = record { is = λ low high. let q : 2048 + 1024 + (id - 1) ≡ 3071 + id = omega arith in e ∙ ap (λ (j : ℕ). get_or w j 0) q }

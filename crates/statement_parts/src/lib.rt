@@ -8,59 +8,52 @@ ghost use Rattle.walk.specs.Walking.{made_b, Walks, onward};
 ghost use Rattle.statement_parts.specs.Stating.{read_goto, read_label, Follows, Worded, Prepares, Prunes, LabelPlace, name_body, Declares};
 ghost use Rattle.penne.specs.Read.{ident};
 
-use answer::identifier::{resolved, then_identifier};
-use answer::number::then_number;
+use answer::identifier::resolved;
 use answer::wrote::Wrote;
-use fields::field::{Identified, Identifier, read_identifier};
-use fields::number::{Read, number};
+use fields::field::{Identifier, read_identifier};
+use fields::number::number;
 use labels::outcome_of;
 use memory::layout::{LABEL_PLACE, SCOPES, SCOPES_END, WORDS};
 use memory::words::word;
 use scopes::pruning::prepare_to_prune_at_goto;
-use walk::fault::{duplicate_label, undefined};
-use walk::items::{write_fault, write_identifier};
-use walk::names::{Named, declare_variable, numbered};
+use walk::fault::{Fault, duplicate_label};
+use walk::items::write_fault;
 use walk::state::Walk;
 
-// UndefinedLabel is kind 2.
-pub fn goto(tree: &[u8], answer: &mut [u8], work: &mut [u32], st: Walk, n: u32) -> Walk
-    ensures { (l : List ℕ) → Follows (Worded n work.old) tree.now read_goto st answer.old l work.old result answer.new l work.new }
+pub fn goto(tree: &[u8], answer: &mut [u8], work: &mut [u32], st: &mut Walk, n: u32)
+    ensures { (l : List ℕ) → Follows (Worded n work.old) tree.now read_goto st.old answer.old l work.old st.new answer.new l work.new }
 {
-    let at = st.at;
-    let one = read_identifier(tree, st.script.names, at);
-    let Identified::Is(i, a) = one else {
-        return st;
+    let Ok((i, a)) = read_identifier(tree, st.script.names, st.at) else {
+        return;
     };
-    let place = number(tree, a);
-    let Read::Number(p, b) = place else {
-        return st;
+    let Ok((p, b)) = number(tree, a) else {
+        return;
     };
-    let w = st.wrote;
     let id = outcome_of(work, n);
     if id == 0 {
-        let x = write_fault(answer, w, 8, undefined(2, i));
-        return st.wrote(x).moved(b);
+        let fault = Fault::UndefinedLabel {
+            name: i.name,
+            place: i.place,
+        };
+        st.wrote = write_fault(answer, st.wrote, 8, fault);
+    } else {
+        prepare(work, st, id, p);
+        st.wrote = jump(answer, st.wrote, 4, resolved(i, id, 0), p);
     }
-    prepare(work, st, id, p);
-    let x = jump(answer, w, 4, resolved(i, id, 0), p);
-    st.wrote(x).moved(b)
+    st.at = b;
 }
 
-fn prepare(work: &mut [u32], st: Walk, label: u32, place: u32)
-    ensures { Prepares st label place work.old work.new }
+fn prepare(work: &mut [u32], st: &Walk, label: u32, place: u32)
+    ensures { Prepares st.now label place work.old work.new }
 {
-    if work.len() < WORDS {
+    if work.len() < WORDS || label == 0 {
         return;
     }
-    if label == 0 {
-        return;
-    }
-    let next_id = st.tables.next_id;
     prepare_to_prune_at_goto(
         &mut work[SCOPES..SCOPES_END],
         (label - 1) as usize,
         place,
-        next_id,
+        st.tables.next_id,
     );
 }
 
@@ -68,97 +61,73 @@ fn prepare(work: &mut [u32], st: Walk, label: u32, place: u32)
 fn jump(answer: &mut [u8], w: Wrote, kind: u32, i: Identifier, place: u32) -> Wrote
     ensures { Put w (num_b kind ++ (made_b i ++ num_b place)) answer.old result answer.new }
 {
-    let x = then_number(answer, w, kind);
-    let y = write_identifier(answer, x, i);
-    then_number(answer, y, place)
+    w.then_number(answer, kind)
+        .then_identifier(answer, i)
+        .then_number(answer, place)
 }
 
-pub fn label(tree: &[u8], answer: &mut [u8], work: &mut [u32], st: Walk, n: u32) -> Walk
-    ensures { (l : List ℕ) → Follows (Worded n work.old) tree.now read_label st answer.old l work.old result answer.new l work.new }
+pub fn label(tree: &[u8], answer: &mut [u8], work: &mut [u32], st: &mut Walk, n: u32)
+    ensures { (l : List ℕ) → Follows (Worded n work.old) tree.now read_label st.old answer.old l work.old st.new answer.new l work.new }
 {
-    let at = st.at;
-    let one = read_identifier(tree, st.script.names, at);
-    let Identified::Is(i, a) = one else {
-        return st;
+    let Ok((i, a)) = read_identifier(tree, st.script.names, st.at) else {
+        return;
     };
-    let place = number(tree, a);
-    let Read::Number(p, b) = place else {
-        return st;
+    let Ok((p, b)) = number(tree, a) else {
+        return;
     };
-    let w = st.wrote;
     let outcome = outcome_of(work, n);
     if 1024 < outcome {
-        let x = write_fault(
-            answer,
-            w,
-            8,
-            duplicate_label(i, label_place(work, outcome - 1024)),
-        );
-        return st.wrote(x).moved(b);
+        let fault = duplicate_label(i, label_place(work, outcome - 1024));
+        st.wrote = write_fault(answer, st.wrote, 8, fault);
+    } else {
+        prune(work, st, outcome);
+        st.wrote = jump(answer, st.wrote, 5, resolved(i, outcome, 1), p);
     }
-    prune(work, st, outcome);
-    let x = jump(answer, w, 5, resolved(i, outcome, 1), p);
-    st.wrote(x).moved(b)
+    st.at = b;
 }
 
 fn label_place(work: &[u32], id: u32) -> u32
     ensures { LabelPlace id work.now result }
 {
-    if id == 0 {
-        return 0;
+    match id {
+        1..=1024 => word(work, SCOPES + LABEL_PLACE + (id - 1) as usize),
+        _ => 0,
     }
-    if 1024 < id {
-        return 0;
-    }
-    word(work, SCOPES + LABEL_PLACE + (id - 1) as usize)
 }
 
-fn prune(work: &mut [u32], st: Walk, label: u32)
-    ensures { Prunes st label work.old work.new }
+fn prune(work: &mut [u32], st: &Walk, label: u32)
+    ensures { Prunes st.now label work.old work.new }
 {
-    if work.len() < WORDS {
+    if work.len() < WORDS || label == 0 {
         return;
     }
-    if label == 0 {
-        return;
-    }
-    let tables = st.tables;
-    let scope = tables.scope;
-    scope.prune_at_label(&mut work[SCOPES..SCOPES_END], (label - 1) as usize);
+    st.tables
+        .scope
+        .prune_at_label(&mut work[SCOPES..SCOPES_END], (label - 1) as usize);
 }
 
 // The name behind the value and the type; `before` is how far the answer was written before them.
-pub fn declared(tree: &[u8], answer: &mut [u8], work: &mut [u32], st: Walk, before: Wrote) -> Walk
-    ensures { Declares tree.now before st answer.old work.old result answer.new work.new }
+pub fn declared(tree: &[u8], answer: &mut [u8], work: &mut [u32], st: &mut Walk, before: Wrote)
+    ensures { Declares tree.now before st.old answer.old work.old st.new answer.new work.new }
 {
-    let at = st.at;
-    let one = read_identifier(tree, st.script.names, at);
-    let Identified::Is(i, a) = one else {
-        return st;
+    let Ok((i, a)) = read_identifier(tree, st.script.names, st.at) else {
+        return;
     };
-    let named = declare_variable(work, st, 4, i, at);
-    match named {
-        Named::As(s, made) => {
-            let w = s.wrote;
-            let x = write_identifier(answer, w, made);
-            s.wrote(x).moved(a)
-        }
-        Named::Not(s, fault) => {
-            let x = write_fault(answer, before, 8, fault);
-            s.wrote(x).moved(a)
-        }
+    match st.declare_variable(work, 4, i, st.at) {
+        Ok(made) => st.wrote = st.wrote.then_identifier(answer, made),
+        Err(fault) => st.wrote = write_fault(answer, before, 8, fault),
     }
+    st.at = a;
 }
 
-pub fn body_id(tree: &[u8], answer: &mut [u8], st: Walk) -> Walk
-    ensures { (l w : List ℕ) → Walks tree.now ident (onward name_body ident_b) st answer.old l w result answer.new l w }
+pub fn body_id(tree: &[u8], answer: &mut [u8], st: &mut Walk)
+    ensures { (l w : List ℕ) → Walks tree.now ident (onward name_body ident_b) st.old answer.old l w st.new answer.new l w }
 {
-    let at = st.at;
-    let one = read_identifier(tree, st.script.names, at);
-    let Identified::Is(i, a) = one else {
-        return st;
+    let Ok((i, a)) = read_identifier(tree, st.script.names, st.at) else {
+        return;
     };
-    let w = st.wrote;
-    let x = then_identifier(answer, w, i.name, i.place, st.tables.next_id, 0);
-    numbered(st.wrote(x).moved(a))
+    let own = resolved(i, st.tables.next_id, 0);
+    st.wrote = st.wrote.then_identifier(answer, own);
+    st.at = a;
+    st.create_anonymous_resolution_id();
 }

@@ -5,7 +5,10 @@ use mathlib.Core.List.{List, ◌++◌, append_assoc}
 use Prim.Native.Nat.{ℕ, ◌≤◌}
 use lib.Dec.{lit≤}
 use lib.ListN.{get_or}
+use Rattle.std.specs.Prelude.{Result}
+use Rattle.fields.specs.declared.refusal.Refusal.{Refusal}
 use Rattle.penne.specs.Reader.{Reader, ◌>>=◌, ret, num, listed}
+use Rattle.std.specs.Prelude.{Ok, Err}
 use Rattle.penne.specs.Tree.{Spot, Ident, Poison, Maybe, ok, err, expr, ref, one, list_of, Node, Expr, stmt, Stm, assignment, method_call, loop, bad_stmt}
 use Rattle.penne.specs.Read.{place, read_poison, read, to_nodes, read_stmt, stmt_of, StmtKind, stmt_kinds, k_bad_stmt, read_assignment, read_method_call}
 use Rattle.penne.specs.Write.{num_b, place_b, poison_b, node_b, stm_b}
@@ -13,11 +16,7 @@ use Rattle.penne.specs.State as S
 use Rattle.penne.specs.Scopes.{Analyzer}
 use Rattle.penne.specs.Variables.{analyze_node, use_called, method_to, analyze_stm}
 use Rattle.penne.proofs.IdsPass.{still_node}
-use Rattle.fields.specs.declared.number.Read.{Read}
-use Rattle.fields.specs.declared.number.Read.TheVariants.{Number, Refused}
 use Rattle.fields.specs.declared.field.Identifier.{Identifier}
-use Rattle.fields.specs.declared.field.Identified.{Identified}
-use Rattle.fields.specs.declared.field.Identified.TheVariants as I
 use Rattle.fields.specs.Answers.{ident_of, Gives, Identifies}
 use Rattle.fields.proofs.Chain.{reads}
 use Rattle.tree.proofs.Statements.{from_last}
@@ -28,35 +27,40 @@ use Rattle.answer.proofs.Fields.{identifier_bytes}
 use Rattle.label_references.specs.Marked.{marked, rest}
 use Rattle.walk.specs.declared.state.Walk.{Walk}
 use Rattle.walk.specs.declared.fault.Fault.{Fault}
-use Rattle.walk.specs.declared.names.Used.{Used}
-use Rattle.walk.specs.declared.names.Used.TheVariants as U
-use Rattle.walk.specs.Walking.{Moves, Writes, with_wrote, Ground, Good, Is, onward, say, say_poison, Walks, fault_b, made_b, Made, Uses}
-use Rattle.walk.proofs.Leading.{leads_read, leads_unread, leads_identified, leads_unidentified, leads_place, leads_unplace, leads_call, leads_end}
-use Rattle.walk.proofs.Writing.{moved, wrote, instead, here_wrote}
+use Rattle.walk.specs.Walking.{moved_to, with_wrote, Moves, Writes, Ground, Good, Is, onward, say, say_poison, Walks, fault_b, made_b, Used, Made, Uses}
+use Rattle.walk.proofs.Leading.{leads_read, leads_unread, leads_identified, leads_place, leads_call, leads_end, leads_last}
+use Rattle.walk.proofs.Writing.{instead, moved_on, wrote_on}
 use Rattle.walk.proofs.Copying.{spells_is}
 use Rattle.walk.proofs.Using.{made_used, made_refused}
 use Rattle.expression_parts.specs.Expressing.{nodes, nodes_b, list_walk, Headed}
-use Rattle.expression_parts.proofs.Onward.{out_same, on, leads_moved, leads_on}
+use Rattle.expression_parts.proofs.Onward.{out_same, on, leads_on}
 use Rattle.expression_parts.proofs.Names.{called_same, number_spelled}
-use Rattle.statement_parts.specs.Stating.{fits, leaving, stm_walk, behind, Follows}
+use Rattle.statement_parts.specs.Stating.{fits, leaving, stm_walk, behind, Follows, Anything, Entered, Worded, Numbered}
 use Rattle.statement_parts.proofs.Fit.{good_before, good_behind}
 
 -- WHAT IS COPIED
 
 -- a kind and the place behind it
-pub place_put : (kind : ℕ) {t : List ℕ} {at : ℕ} {m₁ : Read} {v n : ℕ} {w : Wrote} {o : List ℕ} {x : Wrote} {o' : List ℕ} → Gives num t at m₁ → m₁ ≡ Number v n → Put w (num_b kind ++ renumbered t at n) o x o' → Put w (num_b kind ++ place_b (record { number = v; from = at })) o x o'
+pub place_put : (kind : ℕ) {t : List ℕ} {at : ℕ} {m₁ : Result (ℕ × ℕ) Refusal} {v n : ℕ} {w : Wrote} {o : List ℕ} {x : Wrote} {o' : List ℕ} → Gives num t at m₁ → m₁ ≡ Ok (v, n) → Put w (num_b kind ++ renumbered t at n) o x o' → Put w (num_b kind ++ place_b (record { number = v; from = at })) o x o'
 unfolding place_b
 place_put kind {w = w} {o} {x} {o'} g e p = subst (λ (ys : List ℕ). Put w (num_b kind ++ ys) o x o') (spells_is (number_spelled g e)) p
 
 -- KINDS
 
-module _ {P : Ground → Type 0} (left v : ℕ) {t : List ℕ} {s : Walk} {o l w : List ℕ} {r : Walk} {o' l' w' : List ℕ} where
-  pub arm : {j : ℕ} → v ≡ j → Follows P t (stmt_of left (read_stmt left) (get_or stmt_kinds j k_bad_stmt)) s o l w r o' l' w' → Follows P t (stmt_of left (read_stmt left) (get_or stmt_kinds v k_bad_stmt)) s o l w r o' l' w'
-  arm e h = subst (λ (i : ℕ). Follows P t (stmt_of left (read_stmt left) (get_or stmt_kinds i k_bad_stmt)) s o l w r o' l' w') (sym e) h
-
 -- less has to be known
-pub follows : {P Q : Ground → Type 0} {t : List ℕ} {m : Reader (Stm Spot stmt)} {s : Walk} {o l w : List ℕ} {r : Walk} {o' l' w' : List ℕ} → ((a : Ground) → P a → Q a) → Follows Q t m s o l w r o' l' w' → Follows P t m s o l w r o' l' w'
+follows : {P Q : Ground → Type 0} {t : List ℕ} {m : Reader (Stm Spot stmt)} {s : Walk} {o l w : List ℕ} {r : Walk} {o' l' w' : List ℕ} → ((a : Ground) → P a → Q a) → Follows Q t m s o l w r o' l' w' → Follows P t m s o l w r o' l' w'
 follows f k = record { does = λ h a p i. k.does h a (f a p) i }
+
+-- what an arm knows is enough for its function
+module _ {kind n : ℕ} {t : List ℕ} {m : Reader (Stm Spot stmt)} {s : Walk} {o l w : List ℕ} {r : Walk} {o' l' w' : List ℕ} where
+  pub plain : Follows Anything t m s o l w r o' l' w' → Follows (Numbered kind n s w) t m s o l w r o' l' w'
+  plain k = follows (λ _ _. tt) k
+
+  pub entered : kind ≡ 0 → Follows (Entered s) t m s o l w r o' l' w' → Follows (Numbered kind n s w) t m s o l w r o' l' w'
+  entered e k = follows (λ _ p. p.entered e) k
+
+  pub worded : Follows (Worded n w) t m s o l w r o' l' w' → Follows (Numbered kind n s w) t m s o l w r o' l' w'
+  worded k = follows (λ _ p. p.worded) k
 
 -- POISON
 
@@ -76,12 +80,9 @@ loop_is : (p : Spot) (a : Ground) → say (num_b 3 ++ place_b p) (behind a) ≡ 
 unfolding stm_walk behind marked fits analyze_stm stm_b S.ret
 loop_is p a = refl
 
-module _ {t : List ℕ} {s : Walk} {m₁ : Read} (g : Gives num t s.at m₁) {P : Ground → Type 0} {o l w : List ℕ} where
-  pub loop_not : {i p : ℕ} {r : Walk} {o' l' w' : List ℕ} → m₁ ≡ Refused i p → Follows P t (place >>= λ p. ret (loop p)) s o l w r o' l' w'
-  loop_not e = record { does = λ h a p i. leads_unplace _ g e }
-
-  pub looped : {v n : ℕ} {x : Wrote} {s₁ r : Walk} {o' : List ℕ} → m₁ ≡ Number v n → Put s.wrote (num_b 3 ++ renumbered t s.at n) o x o' → Writes s x s₁ → Moves s₁ n r → Follows P t (place >>= λ p. ret (loop p)) s o l w r o' l w
-  looped e p wr mv = record { does = λ h a _ i. leads_place _ g e (leads_on wr mv (leads_end (loop _) refl (on i (place_put 3 g e p) wr mv) λ _. loop_is _ a)) }
+module _ {t : List ℕ} {s : Walk} {m₁ : Result (ℕ × ℕ) Refusal} (g : Gives num t s.at m₁) {P : Ground → Type 0} {o l w : List ℕ} where
+  pub looped : {v n : ℕ} {x : Wrote} {o' : List ℕ} → m₁ ≡ Ok (v, n) → Put s.wrote (num_b 3 ++ renumbered t s.at n) o x o' → Follows P t (place >>= λ p. ret (loop p)) s o l w (moved_to (with_wrote s x) n) o' l w
+  looped e p = record { does = λ h a _ i. leads_place _ g e (leads_end (loop _) refl (wrote_on i (place_put 3 g e p)) λ _. loop_is _ a) }
 
 -- ASSIGNMENT
 
@@ -89,15 +90,11 @@ assignment_is : (p : Spot) (v : Expr Spot) (x : Node Spot (one ref)) (a : Ground
 unfolding stm_walk behind marked fits analyze_stm stm_b S.◌>>=◌ S.ret
 assignment_is p v x a = out_same (simp append_assoc)
 
-module _ {t : List ℕ} {s : Walk} {m₁ : Read} (g : Gives num t s.at m₁) (left : ℕ) {P : Ground → Type 0} {o l w : List ℕ} {r : Walk} {o' l' w' : List ℕ} where
-  pub assignment_not : {i p : ℕ} → m₁ ≡ Refused i p → Follows P t (read_assignment left) s o l w r o' l' w'
+module _ {t : List ℕ} {s : Walk} {m₁ : Result (ℕ × ℕ) Refusal} (g : Gives num t s.at m₁) (left : ℕ) {P : Ground → Type 0} {o l w : List ℕ} {r : Walk} {o' l' w' : List ℕ} where
+  pub assigned : {v n : ℕ} {x : Wrote} {s₁ : Walk} {o₁ o₂ l₂ w₂ : List ℕ} → m₁ ≡ Ok (v, n) → Put s.wrote (num_b 1 ++ renumbered t s.at n) o x o₁
+      → Walks t (read left expr) (onward analyze_node node_b) (moved_to (with_wrote s x) n) o₁ l w s₁ o₂ l₂ w₂ → Walks t (read left ref) (onward analyze_node node_b) s₁ o₂ l₂ w₂ r o' l' w' → Follows P t (read_assignment left) s o l w r o' l' w'
   unfolding read_assignment
-  assignment_not e = record { does = λ h a p i. leads_unplace _ g e }
-
-  pub assigned : {v n : ℕ} {x : Wrote} {s₁ s₂ s₃ : Walk} {o₁ o₂ l₂ w₂ : List ℕ} → m₁ ≡ Number v n → Put s.wrote (num_b 1 ++ renumbered t s.at n) o x o₁ → Writes s x s₁ → Moves s₁ n s₂
-      → Walks t (read left expr) (onward analyze_node node_b) s₂ o₁ l w s₃ o₂ l₂ w₂ → Walks t (read left ref) (onward analyze_node node_b) s₃ o₂ l₂ w₂ r o' l' w' → Follows P t (read_assignment left) s o l w r o' l' w'
-  unfolding read_assignment
-  assigned e p wr mv k k' = record { does = λ h a _ i. leads_place _ g e (leads_on wr mv (leads_call _ k h (on i (place_put 1 g e p) wr mv) λ x j i₁. leads_call _ k' h i₁ λ y j₂ i₂. leads_end (assignment _ x y) refl i₂ λ _. assignment_is _ x y a)) }
+  assigned e p k k' = record { does = λ h a _ i. leads_place _ g e (leads_call _ k h (wrote_on i (place_put 1 g e p)) λ x _ i₁. leads_last (assignment _ x) k' h i₁ λ y _. assignment_is _ x y a) }
 
 -- METHOD CALL
 
@@ -135,18 +132,14 @@ nodes_grown : (es : List (Expr Spot)) (u : Analyzer Spot) → u.resolution_id �
 unfolding nodes
 nodes_grown es u = (still_node (to_nodes es) u).takes.lower
 
-module _ {t : List ℕ} {s : Walk} {r₁ : Identified} (g : Identifies t s.script.names s.at r₁) (left : ℕ) {P : Ground → Type 0} {o l w : List ℕ} {r : Walk} {o' l' w' : List ℕ} where
-  pub method_not : {i p : ℕ} → r₁ ≡ I.Not i p → Follows P t (read_method_call left) s o l w r o' l' w'
-  unfolding read_method_call
-  method_not e = record { does = λ h a p i. leads_unidentified _ g e }
-
-  module _ {j : Identifier} {n : ℕ} (e : r₁ ≡ I.Is j n) {m₁ : Read} (g₁ : Gives num t n m₁) where
-    pub method_unread : {i p : ℕ} → m₁ ≡ Refused i p → Follows P t (read_method_call left) s o l w r o' l' w'
+module _ {t : List ℕ} {s : Walk} {r₁ : Result (Identifier × ℕ) Refusal} (g : Identifies t s.script.names s.at r₁) (left : ℕ) {P : Ground → Type 0} {o l w : List ℕ} {o' l' w' : List ℕ} where
+  module _ {j : Identifier} {n : ℕ} (e : r₁ ≡ Ok (j, n)) {m₁ : Result (ℕ × ℕ) Refusal} (g₁ : Gives num t n m₁) where
+    pub method_unread : {x : Refusal} {r : Walk} → m₁ ≡ Err x → Follows P t (read_method_call left) s o l w r o' l' w'
     unfolding read_method_call
     method_unread f = record { does = λ h a p i. leads_identified _ g e (leads_unread _ (reads g₁) f) }
 
-    module _ {b n₁ : ℕ} (f : m₁ ≡ Number b n₁) {u : Used} (k : Uses (λ x. use_called x b) s j w u w) where
-      pub method_as : {v : Identifier} {s₁ : Walk} {o₁ : List ℕ} → u ≡ U.As v → Headed s 2 v t n n₁ o s₁ o₁ → Walks t (listed (read left expr)) list_walk s₁ o₁ l w r o' l' w' → Follows P t (read_method_call left) s o l w r o' l' w'
+    module _ {b n₁ : ℕ} (f : m₁ ≡ Ok (b, n₁)) {u : Used} (k : Uses (λ x. use_called x b) s j w u w) where
+      pub method_as : {v : Identifier} {s₁ r : Walk} {o₁ : List ℕ} → u ≡ Ok v → Headed s 2 v t n n₁ o s₁ o₁ → Walks t (listed (read left expr)) list_walk s₁ o₁ l w r o' l' w' → Follows P t (read_method_call left) s o l w r o' l' w'
       unfolding read_method_call
       method_as {v} {s₁} {o₁} made hd c = record {
         does = λ h a _ i.
@@ -156,9 +149,9 @@ module _ {t : List ℕ} {s : Walk} {r₁ : Identified} (g : Identifies t s.scrip
             leads_identified _ g e (leads_read _ (reads g₁) f (leads_on wr mv (leads_call _ c h (on i put wr mv) λ es q i₁. leads_end (method_call _ b (to_nodes es)) refl i₁ λ z. method_is _ b es a (made_used (looked b k (method_call (ident_of s.at j) b (to_nodes es)) a i z) made))));
       }
 
-      pub method_refused : {v : Fault} {s₁ s₂ : Walk} {x : Wrote} {o₁ : List ℕ} → u ≡ U.Not v → Moves s n₁ s₁ → Walks t (listed (read left expr)) list_walk s₁ o l w s₂ o₁ l' w' → Put s.wrote (num_b 8 ++ fault_b v) o₁ x o' → Writes s₂ x r → Follows P t (read_method_call left) s o l w r o' l' w'
+      pub method_refused : {v : Fault} {s₁ : Walk} {x : Wrote} {o₁ : List ℕ} → u ≡ Err v → Walks t (listed (read left expr)) list_walk (moved_to s n₁) o l w s₁ o₁ l' w' → Put s.wrote (num_b 8 ++ fault_b v) o₁ x o' → Follows P t (read_method_call left) s o l w (with_wrote s₁ x) o' l' w'
       unfolding read_method_call behind
-      method_refused {v} not mv c put wr = record {
-        does = λ h a _ i. leads_identified _ g e (leads_read _ (reads g₁) f (leads_moved mv (leads_call _ c h (moved i mv) λ es q i₁.
-            leads_end (method_call _ b (to_nodes es)) (sym (here_wrote wr)) (instead i _ (nodes_grown es a.st) i₁ put wr) λ z. let y = made_refused (looked b k (method_call (ident_of s.at j) b (to_nodes es)) a i z) not in method_bad (ident_of s.at j) b es a v y.1 y.2)));
+      method_refused {v} not c put = record {
+        does = λ h a _ i. leads_identified _ g e (leads_read _ (reads g₁) f (leads_call _ c h (moved_on i) λ es q i₁.
+            leads_end (method_call _ b (to_nodes es)) refl (instead i _ (nodes_grown es a.st) i₁ put (record { is = refl })) λ z. let y = made_refused (looked b k (method_call (ident_of s.at j) b (to_nodes es)) a i z) not in method_bad (ident_of s.at j) b es a v y.1 y.2));
       }

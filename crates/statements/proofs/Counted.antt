@@ -5,46 +5,42 @@ use mathlib.Core.List.{List, [], ◌∷◌}
 use Prim.Native.Nat.{ℕ, zero, suc, ◌+◌, ◌-◌, ◌≤◌, ◌<◌}
 use native.Mathlib.Omega.{arith}
 use lib.ListN.{get_or}
+use Rattle.std.specs.Prelude.{Result, Ok, Err, Option, Some, None}
+use Rattle.fields.specs.declared.refusal.Refusal.{Refusal}
 use Rattle.penne.specs.Tree.{Spot, stmt, Stm}
-use Rattle.penne.specs.Reader.{Counts, Cur, Reader, below, plus, fits, a_statement, an_entry, counted}
+use Rattle.penne.specs.Reader.{Counts, Cur, below, plus, fits, a_statement, an_entry, counted}
 use Rattle.penne.specs.Read.{read_stmt, stmt_of, stmt_head, StmtKind, stmt_kinds, stmt_counts, k_declaration, k_assignment, k_method_call, k_loop, k_goto, k_label, k_if, k_block, k_bad_stmt}
 use Rattle.penne.specs.Write.{stm_b}
-use Rattle.fields.specs.declared.number.Read.{Read}
-use Rattle.fields.specs.declared.number.Read.TheVariants.{Number, Refused}
 use Rattle.fields.specs.declared.counts.Counts as K
-use Rattle.fields.specs.declared.counts.Counted.{Counted}
-use Rattle.fields.specs.declared.counts.Counted.TheVariants.{Are, TooMany}
-use Rattle.fields.specs.declared.counts.Passed.TheVariants as P
-use Rattle.fields.specs.Answers.{cursor, counts_of, Gives, Counting, passed_of, passed_by, Passes}
+use Rattle.fields.specs.Answers.{cursor, counts_of, Gives, Counting}
 use Rattle.fields.proofs.Counting.{fitted}
 use Rattle.tree.proofs.Statements as T
 use Rattle.label_references.specs.Marked.{rest}
 use Rattle.label_references.proofs.Laying.{fits_statements, one_statement}
 use Rattle.containers.proofs.Lists.{and_true}
 use Rattle.walk.specs.declared.state.Walk.{Walk}
-use Rattle.walk.specs.Walking.{Counted as Counts-to, Moves, here, Rest, Ground, Marks, Is, Leads, Walks}
-use Rattle.walk.proofs.Leading.{walks, unend_go, leads_refused, leads_counting, leads_at}
-use Rattle.walk.proofs.Writing.{here_moved, moved}
+use Rattle.walk.specs.Walking.{moved_to, with_counts, here, Rest, Ground, Marks, Is, Leads, Walks}
+use Rattle.walk.proofs.Leading.{walks, leads_unpassed, leads_counting}
+use Rattle.walk.proofs.Writing.{moved_on}
 use Rattle.walk.proofs.Writing as W
 use Rattle.statement_parts.specs.Stating.{leaving, stm_walk, behind, Follows, Numbered}
 use Rattle.statement_parts.proofs.Fit.{good_unbehind}
 
 -- A STATEMENT THAT CAN NOT BE READ
 
-unpassed : {t : List ℕ} {Q : Stm Spot stmt → Cur → Type 0} {m : Reader (Stm Spot stmt)} {names at : ℕ} {k : K.Counts} {i p : ℕ} → Passes m t names k at (P.Refused i p) → Leads m t (cursor at names (counts_of k)) Q
-unfolding passed_of
-unpassed {t} {m = m} g = leads_refused (unend_go _ g.is)
+read : {t : List ℕ} {at : ℕ} {m x : Result (ℕ × ℕ) Refusal} → Gives (below 9) t at m → m ≡ x → Gives (below 9) t at x
+read {t} {at} h e = subst (λ (q : Result (ℕ × ℕ) Refusal). Gives (below 9) t at q) e h
 
-module _ {t : List ℕ} {s : Walk} {m₁ : Read} (h : Gives (below 9) t s.at m₁) (left : ℕ) {o l w : List ℕ} {r : Walk} {o' l' w' : List ℕ} where
-  pub stmt_unread : {i p : ℕ} → m₁ ≡ Refused i p → Walks t (read_stmt left) (stm_walk stm_b) s o l w r o' l' w'
-  stmt_unread {i} {p} e = walks λ j a z. unpassed (T.stmt_unread h left {x = P.Refused i p} e (sym (ap (passed_by s.counts) e)))
+module _ {t : List ℕ} {s : Walk} {m₁ : Result (ℕ × ℕ) Refusal} (h : Gives (below 9) t s.at m₁) (left : ℕ) {o l w : List ℕ} {r : Walk} {o' l' w' : List ℕ} where
+  pub stmt_unread : {x : Refusal} → m₁ ≡ Err x → Walks t (read_stmt left) (stm_walk stm_b) s o l w r o' l' w'
+  stmt_unread e = walks λ j a z. leads_unpassed (T.stmt_unread left (read h e))
 
-  module _ {v n : ℕ} (e : m₁ ≡ Number v n) where
+  module _ {v n : ℕ} (e : m₁ ≡ Ok (v, n)) where
     pub stmt_deep : left ≡ 0 → Walks t (read_stmt left) (stm_walk stm_b) s o l w r o' l' w'
-    stmt_deep z = walks λ j a y. unpassed (T.stmt_deep h left z e)
+    stmt_deep z = walks λ j a y. leads_unpassed (T.stmt_deep left (read h e) z)
 
-    pub stmt_many : {b : K.Counts} {y : Counted} → Counting s.counts b y → counts_of b ≡ stmt_counts (get_or stmt_kinds v k_bad_stmt) → (left ≡ 0 → ⊥) → y ≡ TooMany → Walks t (read_stmt left) (stm_walk stm_b) s o l w r o' l' w'
-    stmt_many g u z q = walks λ j a y. unpassed (T.stmt_many h e g u left z q)
+    pub stmt_many : {b : K.Counts} {y : Option K.Counts} → Counting s.counts b y → counts_of b ≡ stmt_counts (get_or stmt_kinds v k_bad_stmt) → (left ≡ 0 → ⊥) → y ≡ None → Walks t (read_stmt left) (stm_walk stm_b) s o l w r o' l' w'
+    stmt_many {b} g u z q = walks λ j a y. leads_unpassed (T.stmt_many left (read h e) z (subst (λ (x : Option K.Counts). Counting s.counts b x) q g) u)
 
 -- WHAT IS COUNTED
 
@@ -79,10 +75,10 @@ record More (x : StmtKind) (k c : K.Counts) : Type 0 where
   low : k.statements < 2048
   few : c.entries ≤ 1024
 
-more : {x : StmtKind} {k b c : K.Counts} {y : Counted} → Counting k b y → counts_of b ≡ stmt_counts x → y ≡ Are c → More x k c
+more : {x : StmtKind} {k b c : K.Counts} {y : Option K.Counts} → Counting k b y → counts_of b ≡ stmt_counts x → y ≡ Some c → More x k c
 unfolding plus
 more {x} {k} {b} {c} g u e =
-    let f = fitted g e in
+    let f = fitted (subst (λ (z : Option K.Counts). Counting k b z) e g) in
     let q : counts_of c ≡ plus (counts_of k) (stmt_counts x) = f.1 ∙ ap (plus (counts_of k)) u in
     let l = fits_statements (plus (counts_of k) (stmt_counts x)) (subst (λ (z : Counts). fits (plus (counts_of k) z) ≡ true) u f.0) in
     record {
@@ -107,34 +103,33 @@ marks_on {k = k} {c} {w} {m} d h =
       main = h.main;
     }
 
-counted_is : {x : StmtKind} {s : Walk} {o l w : List ℕ} {a : Ground} {c : K.Counts} {r : Walk} → More x s.counts c → Is s o l w a → Counts-to s c r → Is r o l w (behind a)
+counted_is : {x : StmtKind} {s : Walk} {o l w : List ℕ} {a : Ground} {c : K.Counts} → More x s.counts c → Is s o l w a → Is (with_counts s c) o l w (behind a)
 unfolding behind leaving
-counted_is {a = a} {c} d i e = let q = d.entries in W.counted i (leaving (rest a.rest.words) true a.rest) (omega arith) refl refl refl (λ f. (and_true _ _ f).0) (λ f h. marks_on d h) e
+counted_is {a = a} {c} d i = let q = d.entries in W.counted i (leaving (rest a.rest.words) true a.rest) (omega arith) refl refl refl (λ f. (and_true _ _ f).0) (λ f h. marks_on d h) (record { is = refl })
 
 -- THE STATEMENT GOES ON
 
-module _ {t : List ℕ} (s : Walk) {m₁ : Read} (h : Gives (below 9) t s.at m₁) where
-  stmt_in : {Q : Stm Spot stmt → Cur → Type 0} (left : ℕ) {v n : ℕ} {b c : K.Counts} {y : Counted} → m₁ ≡ Number v n → (left ≡ 0 → ⊥) → Counting s.counts b y → counts_of b ≡ stmt_counts (get_or stmt_kinds v k_bad_stmt) → y ≡ Are c
+module _ {t : List ℕ} (s : Walk) {m₁ : Result (ℕ × ℕ) Refusal} (h : Gives (below 9) t s.at m₁) where
+  stmt_in : {Q : Stm Spot stmt → Cur → Type 0} (left : ℕ) {v n : ℕ} {b c : K.Counts} {y : Option K.Counts} → m₁ ≡ Ok (v, n) → (left ≡ 0 → ⊥) → Counting s.counts b y → counts_of b ≡ stmt_counts (get_or stmt_kinds v k_bad_stmt) → y ≡ Some c
       → Leads (stmt_of (left - 1) (read_stmt (left - 1)) (get_or stmt_kinds v k_bad_stmt)) t (cursor n s.script.names (counts_of c)) Q → Leads (read_stmt left) t (here s) Q
   unfolding read_stmt stmt_head counted
   stmt_in zero e z g u q k = absurd (z refl)
   stmt_in {Q} (suc j) {v} {n} {b} {c} e z g u q k =
       let less : suc j - 1 ≡ j = omega arith in
       let kind = get_or stmt_kinds v k_bad_stmt in
-      let same : counts_of c ≡ plus (counts_of s.counts) (stmt_counts kind) = (fitted g q).1 ∙ ap (plus (counts_of s.counts)) u in
-      leads_counting stmt_counts stmt_head _ (T.kind_value _ 9 h (counts_of s.counts) e) λ f.
+      let same : counts_of c ≡ plus (counts_of s.counts) (stmt_counts kind) = (fitted (subst (λ (z : Option K.Counts). Counting s.counts b z) q g)).1 ∙ ap (plus (counts_of s.counts)) u in
+      leads_counting stmt_counts stmt_head _ (T.kind_value _ 9 (read h e) (counts_of s.counts)) λ f.
       subst (λ (d : Counts). Leads (stmt_of j (read_stmt j) kind) t (cursor n s.script.names d) Q) same (subst (λ (d : ℕ). Leads (stmt_of d (read_stmt d) kind) t (cursor n s.script.names (counts_of c)) Q) less k)
 
-module _ {t : List ℕ} {s : Walk} {m₁ : Read} (h : Gives (below 9) t s.at m₁) where
-  pub stmt_goes : {left v n : ℕ} {b c : K.Counts} {y : Counted} {s₁ s₂ : Walk} {o l w : List ℕ} {r : Walk} {o' l' w' : List ℕ} → m₁ ≡ Number v n → (left ≡ 0 → ⊥) → Counting s.counts b y → counts_of b ≡ stmt_counts (get_or stmt_kinds v k_bad_stmt) → y ≡ Are c → Counts-to s c s₁ → Moves s₁ n s₂
-      → Follows (Numbered v s.counts.statements s₂ w) t (stmt_of (left - 1) (read_stmt (left - 1)) (get_or stmt_kinds v k_bad_stmt)) s₂ o l w r o' l' w' → Walks t (read_stmt left) (stm_walk stm_b) s o l w r o' l' w'
+module _ {t : List ℕ} {s : Walk} {m₁ : Result (ℕ × ℕ) Refusal} (h : Gives (below 9) t s.at m₁) where
+  pub stmt_goes : {left v n : ℕ} {b c : K.Counts} {y : Option K.Counts} {o l w : List ℕ} {r : Walk} {o' l' w' : List ℕ} → m₁ ≡ Ok (v, n) → (left ≡ 0 → ⊥) → Counting s.counts b y → counts_of b ≡ stmt_counts (get_or stmt_kinds v k_bad_stmt) → y ≡ Some c
+      → Follows (Numbered v s.counts.statements (moved_to (with_counts s c) n) w) t (stmt_of (left - 1) (read_stmt (left - 1)) (get_or stmt_kinds v k_bad_stmt)) (moved_to (with_counts s c) n) o l w r o' l' w' → Walks t (read_stmt left) (stm_walk stm_b) s o l w r o' l' w'
   unfolding stmt_kinds
-  stmt_goes {left} {v} {n} {c = c} {s₁ = s₁} {s₂} {w = w} e z g u q co mo k =
+  stmt_goes {left} {v} {n} {c = c} {w = w} e z g u q k =
       let d = more g u q in
-      let counts : s₂.counts ≡ c = ap (λ (x : Walk). x.counts) mo.is ∙ ap (λ (x : Walk). x.counts) co.is in
-      walks λ h₁ a i. stmt_in s h left e z g u q (leads_at (here_moved mo ∙ ap (λ (x : Walk). cursor n x.script.names (counts_of x.counts)) co.is) (k.does h₁ a (record {
+      walks λ h₁ a i. stmt_in s h left e z g u q (k.does h₁ a (record {
         entered = λ is_0.
             let entries : c.entries ≡ s.counts.entries + 1 = d.entries ∙ ap (λ (j : ℕ). s.counts.entries + (stmt_counts (get_or stmt_kinds j k_bad_stmt)).entries) is_0 ∙ ap (λ (j : ℕ). s.counts.entries + j) an_entry_lem in
-            record { few = omega (arith, d.few, ap (λ (x : K.Counts). x.entries) counts); room = λ y. omega (arith, (i.when (good_unbehind a y)).tables.entries, entries, ap (λ (x : K.Counts). x.entries) counts) };
+            record { few = d.few; room = λ y. omega (arith, (i.when (good_unbehind a y)).tables.entries, entries) };
         worded = record { low = d.low; is = λ y. let e₀ : s.counts.statements + 0 ≡ s.counts.statements = omega arith in ap (λ (j : ℕ). get_or w j 0) (sym e₀) ∙ (i.when (good_unbehind a y)).marks.told 0 (omega (arith, d.low)) };
-      }) (moved (counted_is d i co) mo)))
+      }) (moved_on (counted_is d i)))

@@ -6,7 +6,9 @@ use mathlib.Core.Option.{Option}
 use Prim.Native.Nat.{ℕ, ◌≤◌, ◌<◌}
 use native.Mathlib.Omega.{arith}
 use lib.ListN.{length}
-use Rattle.penne.specs.Reader.{Counts, ◌>>=◌, ret, num}
+use Rattle.std.specs.Prelude.{Result, Ok}
+use Rattle.fields.specs.declared.refusal.Refusal.{Refusal}
+use Rattle.penne.specs.Reader.{Counts, num}
 use Rattle.penne.specs.Tree.{Spot, Ident, Maybe, ok, err, Carried, expr, Expr, declaration}
 use Rattle.penne.specs.Read.{ident, maybe, option, read_ty, read, read_declaration}
 use Rattle.penne.specs.Write.{num_b, place_b, option_b, carried_b, node_b, stm_b}
@@ -14,8 +16,6 @@ use Rattle.penne.specs.State as S
 use Rattle.penne.specs.Scopes.{Analyzer, declare_variable}
 use Rattle.penne.specs.Variables.{analyze_node, analyze_option, analyze_maybe_type, declaration_of, analyze_stm}
 use Rattle.penne.proofs.IdsPass.{still_option, still_carried}
-use Rattle.fields.specs.declared.number.Read.{Read}
-use Rattle.fields.specs.declared.number.Read.TheVariants.{Number, Refused}
 use Rattle.fields.specs.Answers.{counts_of, Gives}
 use Rattle.answer.specs.declared.wrote.Wrote.{Wrote}
 use Rattle.answer.specs.Out.{Put}
@@ -23,10 +23,9 @@ use Rattle.answer.specs.Parts.{renumbered}
 use Rattle.label_references.specs.Marked.{marked, rest}
 use Rattle.label_references.proofs.Keeping.{keeps_read, keeps_ty, keeps_maybe, keeps_option}
 use Rattle.walk.specs.declared.state.Walk.{Walk}
-use Rattle.walk.specs.Walking.{Moves, Writes, here, Rest, Ground, Is, onward, say, Walks}
-use Rattle.walk.proofs.Leading.{leads_bind, leads_place, leads_unplace, leads_call, leads_got, is_same}
-use Rattle.walk.proofs.Writing.{wrote, out_is}
-use Rattle.expression_parts.proofs.Onward.{on, leads_on}
+use Rattle.walk.specs.Walking.{moved_to, with_wrote, here, Rest, Ground, Is, onward, say, Walks}
+use Rattle.walk.proofs.Leading.{leads_bind, leads_place, leads_call, leads_got, is_same}
+use Rattle.walk.proofs.Writing.{out_is, wrote_on}
 use Rattle.statement_parts.specs.Stating.{is_free, fits, leaving, stm_walk, behind, Follows, Entered, declared_b, Declares}
 use Rattle.statement_parts.proofs.Free.{free_same, within_option, within_carried}
 use Rattle.statement_parts.proofs.Fit.{ground_same, leaving_twice}
@@ -79,19 +78,15 @@ declared_is : (p : Spot) (v : Option (Expr Spot)) (c : Carried Spot) (i : Ident 
 unfolding behind
 declared_is p v c i a = declaration_is p v c i a
 
-module _ {t : List ℕ} {s : Walk} {m₁ : Read} (g : Gives num t s.at m₁) (left : ℕ) {o l w : List ℕ} {r : Walk} {o' l' w' : List ℕ} where
-  pub declaration_not : {P : Ground → Type 0} {i p : ℕ} → m₁ ≡ Refused i p → Follows P t (read_declaration left) s o l w r o' l' w'
-  unfolding read_declaration
-  declaration_not e = record { does = λ h a p i. leads_unplace _ g e }
-
-  pub declaration_goes : {v n : ℕ} {x : Wrote} {s₁ s₂ s₃ s₄ : Walk} {o₁ o₂ w₂ o₃ w₃ : List ℕ} → m₁ ≡ Number v n → Put s.wrote (num_b 0 ++ renumbered t s.at n) o x o₁ → Writes s x s₁ → Moves s₁ n s₂
-      → Walks t (option (read left expr)) (onward (analyze_option analyze_node) (option_b node_b)) s₂ o₁ l w s₃ o₂ l' w₂ → Walks t (option (maybe (read_ty left false))) (onward (analyze_option analyze_maybe_type) carried_b) s₃ o₂ l' w₂ s₄ o₃ l' w₃ → Declares t s.wrote s₄ o₃ w₃ r o' w'
+module _ {t : List ℕ} {s : Walk} {m₁ : Result (ℕ × ℕ) Refusal} (g : Gives num t s.at m₁) (left : ℕ) {o l w : List ℕ} {r : Walk} {o' l' w' : List ℕ} where
+  pub declaration_goes : {v n : ℕ} {x : Wrote} {s₁ s₂ : Walk} {o₁ o₂ w₂ o₃ w₃ : List ℕ} → m₁ ≡ Ok (v, n) → Put s.wrote (num_b 0 ++ renumbered t s.at n) o x o₁
+      → Walks t (option (read left expr)) (onward (analyze_option analyze_node) (option_b node_b)) (moved_to (with_wrote s x) n) o₁ l w s₁ o₂ l' w₂ → Walks t (option (maybe (read_ty left false))) (onward (analyze_option analyze_maybe_type) carried_b) s₁ o₂ l' w₂ s₂ o₃ l' w₃ → Declares t s.wrote s₂ o₃ w₃ r o' w'
       → Follows (Entered s) t (read_declaration left) s o l w r o' l' w'
   unfolding read_declaration
-  declaration_goes {v} {n} {s₁ = s₁} {s₂} {s₃} {s₄} e put wr mv k₁ k₂ k₃ = record {
-    does = λ h a p i. leads_place _ g e (leads_on wr mv (leads_call _ k₁ h (on i (place_put 0 g e put) wr mv) λ y₁ j₁ i₁. leads_call _ k₂ h i₁ λ y₂ j₂ i₂. leads_bind ident _ λ y d q.
-        let c : counts_of s₄.counts ≡ counts_of s.counts = ((keeps_option (keeps_maybe (keeps_ty left false))).at t (here s₃)).to j₂ ∙ ((keeps_option (keeps_read left expr)).at t (here s₂)).to j₁ ∙ ap (λ (z : Walk). counts_of z.counts) mv.is ∙ ap (λ (z : Walk). counts_of z.counts) wr.is in
-        let entries : s₄.counts.entries ≡ s.counts.entries = ap (λ (z : Counts). z.entries) c in
-        let z = (k₃.does h l' (behind a) i refl (so_far (record { number = v; from = s.at }) y₁ y₂ (behind a).st) (typed y₂ (valued y₁ (behind a).st).1).1 (later y₁ y₂ a) (omega (arith, p.few)) (λ f. room y₁ y₂ a s.counts.entries s₄.counts.entries entries (p.room f)) (regroup (record { number = v; from = s.at }) y₁ y₂ (behind a) i₂)).to y d q in
-        leads_got (declaration _ y₁ y₂ y) (record { cur = z.cur; is = is_same (λ _. declared_is _ y₁ y₂ y a) z.is })));
+  declaration_goes {v} {n} {x} {s₁} {s₂} e put k₁ k₂ k₃ = record {
+    does = λ h a p i. leads_place _ g e (leads_call _ k₁ h (wrote_on i (place_put 0 g e put)) λ y₁ j₁ i₁. leads_call _ k₂ h i₁ λ y₂ j₂ i₂. leads_bind ident _ λ y d q.
+        let c : counts_of s₂.counts ≡ counts_of s.counts = ((keeps_option (keeps_maybe (keeps_ty left false))).at t (here s₁)).to j₂ ∙ ((keeps_option (keeps_read left expr)).at t (here (moved_to (with_wrote s x) n))).to j₁ in
+        let entries : s₂.counts.entries ≡ s.counts.entries = ap (λ (z : Counts). z.entries) c in
+        let z = (k₃.does h l' (behind a) i refl (so_far (record { number = v; from = s.at }) y₁ y₂ (behind a).st) (typed y₂ (valued y₁ (behind a).st).1).1 (later y₁ y₂ a) (omega (arith, p.few)) (λ f. room y₁ y₂ a s.counts.entries s₂.counts.entries entries (p.room f)) (regroup (record { number = v; from = s.at }) y₁ y₂ (behind a) i₂)).to y d q in
+        leads_got (declaration _ y₁ y₂ y) (record { cur = z.cur; is = is_same (λ _. declared_is _ y₁ y₂ y a) z.is }));
   }

@@ -8,17 +8,14 @@ ghost use Rattle.penne.specs.Write.{stm_b};
 ghost use Rattle.walk.specs.Walking.{Walks};
 ghost use Rattle.statement_parts.specs.Stating.{read_loop, stm_walk, stms_walk, body_walk, body_ok_walk, Follows, Anything, Entered, Numbered};
 
-use answer::copy::then_head;
-use answer::number::then_number;
 use expression_parts::call_head;
 use expressions::{expression, expressions, option_expression, reference};
-use fields::counts::{Counted, count, statement_counts};
-use fields::field::{Identified, operator, read_identifier};
-use fields::number::{Read, below, number};
+use fields::counts::{count, statement_counts};
+use fields::field::{operator, read_identifier};
+use fields::number::{below, number};
 use statement_parts::{body_id, declared, goto, label};
 use types::option_type;
 use walk::items::{copy_poison, write_fault};
-use walk::names::{Used, closed, opened, use_called};
 use walk::state::Walk;
 
 #[cycle(statements)]
@@ -27,49 +24,40 @@ pub fn stmt(
     answer: &mut [u8],
     list: &mut [u32],
     work: &mut [u32],
-    st: Walk,
+    st: &mut Walk,
     left: u32,
-) -> Walk
-    ensures { Walks tree.now (read_stmt left) (stm_walk stm_b) st answer.old list.old work.old result answer.new list.new work.new }
+)
+    ensures { Walks tree.now (read_stmt left) (stm_walk stm_b) st.old answer.old list.old work.old st.new answer.new list.new work.new }
 {
-    let at = st.at;
-    let kind = below(tree, 9, at);
-    let Read::Number(k, a) = kind else {
-        return st;
+    let Ok((k, a)) = below(tree, 9, st.at) else {
+        return;
     };
     if left == 0 {
-        return st;
+        return;
     }
-    let counts = st.counts;
-    let more = count(counts, statement_counts(k));
-    let Counted::Are(c) = more else {
-        return st;
+    let n = st.counts.statements;
+    let Some(c) = count(st.counts, statement_counts(k)) else {
+        return;
     };
-    statement_of(
-        tree,
-        answer,
-        list,
-        work,
-        st.counted(c).moved(a),
-        left - 1,
-        k,
-        counts.statements,
-    )
+    st.counts = c;
+    st.at = a;
+    statement_of(tree, answer, list, work, st, left - 1, k, n);
 }
 
 // What follows a statement's kind; `n` is the statement's number.
 #[cycle(statements)]
+#[tactic(auto, using(crate::proofs::Arms::plain, crate::proofs::Arms::entered, crate::proofs::Arms::worded), unfolding(penne::specs::Read::stmt_of, penne::specs::Read::stmt_kinds))]
 fn statement_of(
     tree: &[u8],
     answer: &mut [u8],
     list: &mut [u32],
     work: &mut [u32],
-    st: Walk,
+    st: &mut Walk,
     left: u32,
     kind: u32,
     n: u32,
-) -> Walk
-    ensures { Follows (Numbered kind n st work.old) tree.now (stmt_of left (read_stmt left) (get_or stmt_kinds kind k_bad_stmt)) st answer.old list.old work.old result answer.new list.new work.new }
+)
+    ensures { Follows (Numbered kind n st.old work.old) tree.now (stmt_of left (read_stmt left) (get_or stmt_kinds kind k_bad_stmt)) st.old answer.old list.old work.old st.new answer.new list.new work.new }
 {
     match kind {
         0 => declaration(tree, answer, list, work, st, left),
@@ -90,21 +78,20 @@ fn declaration(
     answer: &mut [u8],
     list: &mut [u32],
     work: &mut [u32],
-    st: Walk,
+    st: &mut Walk,
     left: u32,
-) -> Walk
-    ensures { Follows (Entered st) tree.now (read_declaration left) st answer.old list.old work.old result answer.new list.new work.new }
+)
+    ensures { Follows (Entered st.old) tree.now (read_declaration left) st.old answer.old list.old work.old st.new answer.new list.new work.new }
 {
-    let at = st.at;
-    let place = number(tree, at);
-    let Read::Number(_, a) = place else {
-        return st;
+    let Ok((_, a)) = number(tree, st.at) else {
+        return;
     };
-    let w = st.wrote;
-    let x = then_head(answer, w, 0, tree, at, a);
-    let s = option_expression(tree, answer, list, work, st.wrote(x).moved(a), left);
-    let r = option_type(tree, answer, work, s, left);
-    declared(tree, answer, work, r, w)
+    let before = st.wrote;
+    st.wrote = before.then_head(answer, 0, tree, st.at, a);
+    st.at = a;
+    option_expression(tree, answer, list, work, st, left);
+    option_type(tree, answer, work, st, left);
+    declared(tree, answer, work, st, before);
 }
 
 fn assignment(
@@ -112,66 +99,59 @@ fn assignment(
     answer: &mut [u8],
     list: &mut [u32],
     work: &mut [u32],
-    st: Walk,
+    st: &mut Walk,
     left: u32,
-) -> Walk
-    ensures { Follows Anything tree.now (read_assignment left) st answer.old list.old work.old result answer.new list.new work.new }
+)
+    ensures { Follows Anything tree.now (read_assignment left) st.old answer.old list.old work.old st.new answer.new list.new work.new }
 {
-    let at = st.at;
-    let place = number(tree, at);
-    let Read::Number(_, a) = place else {
-        return st;
+    let Ok((_, a)) = number(tree, st.at) else {
+        return;
     };
-    let w = st.wrote;
-    let x = then_head(answer, w, 1, tree, at, a);
-    let s = expression(tree, answer, list, work, st.wrote(x).moved(a), left);
-    reference(tree, answer, list, work, s, left)
+    st.wrote = st.wrote.then_head(answer, 1, tree, st.at, a);
+    st.at = a;
+    expression(tree, answer, list, work, st, left);
+    reference(tree, answer, list, work, st, left);
 }
 
+// The arguments of a name that is refused are analysed, then dropped.
 fn method_call(
     tree: &[u8],
     answer: &mut [u8],
     list: &mut [u32],
     work: &mut [u32],
-    st: Walk,
+    st: &mut Walk,
     left: u32,
-) -> Walk
-    ensures { Follows Anything tree.now (read_method_call left) st answer.old list.old work.old result answer.new list.new work.new }
+)
+    ensures { Follows Anything tree.now (read_method_call left) st.old answer.old list.old work.old st.new answer.new list.new work.new }
 {
-    let at = st.at;
-    let one = read_identifier(tree, st.script.names, at);
-    let Identified::Is(i, a) = one else {
-        return st;
+    let Ok((i, a)) = read_identifier(tree, st.script.names, st.at) else {
+        return;
     };
-    let builtin = number(tree, a);
-    let Read::Number(n, b) = builtin else {
-        return st;
+    let Ok((n, b)) = number(tree, a) else {
+        return;
     };
-    let called = use_called(work, st, i, n);
-    match called {
-        Used::As(made) => {
-            let s = call_head(tree, answer, st, 2, made, a, b);
-            expressions(tree, answer, list, work, s, left)
+    match st.use_called(work, i, n) {
+        Ok(made) => {
+            call_head(tree, answer, st, 2, made, a, b);
+            expressions(tree, answer, list, work, st, left);
         }
-        Used::Not(fault) => {
-            let w = st.wrote;
-            let s = expressions(tree, answer, list, work, st.moved(b), left);
-            s.wrote(write_fault(answer, w, 8, fault))
+        Err(fault) => {
+            let before = st.wrote;
+            st.at = b;
+            expressions(tree, answer, list, work, st, left);
+            st.wrote = write_fault(answer, before, 8, fault);
         }
     }
 }
 
-fn loop_back(tree: &[u8], answer: &mut [u8], st: Walk) -> Walk
-    ensures { (l w : List ℕ) → Follows Anything tree.now read_loop st answer.old l w result answer.new l w }
+fn loop_back(tree: &[u8], answer: &mut [u8], st: &mut Walk)
+    ensures { (l w : List ℕ) → Follows Anything tree.now read_loop st.old answer.old l w st.new answer.new l w }
 {
-    let at = st.at;
-    let place = number(tree, at);
-    let Read::Number(_, a) = place else {
-        return st;
+    let Ok((_, a)) = number(tree, st.at) else {
+        return;
     };
-    let w = st.wrote;
-    let x = then_head(answer, w, 3, tree, at, a);
-    st.wrote(x).moved(a)
+    st.wrote = st.wrote.then_head(answer, 3, tree, st.at, a);
+    st.at = a;
 }
 
 // An If.
@@ -181,26 +161,23 @@ fn branches(
     answer: &mut [u8],
     list: &mut [u32],
     work: &mut [u32],
-    st: Walk,
+    st: &mut Walk,
     left: u32,
-) -> Walk
-    ensures { Follows Anything tree.now (read_if left (read_stmt left)) st answer.old list.old work.old result answer.new list.new work.new }
+)
+    ensures { Follows Anything tree.now (read_if left (read_stmt left)) st.old answer.old list.old work.old st.new answer.new list.new work.new }
 {
-    let at = st.at;
-    let place = number(tree, at);
-    let Read::Number(_, a) = place else {
-        return st;
+    let Ok((_, a)) = number(tree, st.at) else {
+        return;
     };
-    let op = operator(tree, a);
-    let Read::Number(_, b) = op else {
-        return st;
+    let Ok(b) = operator(tree, a) else {
+        return;
     };
-    let w = st.wrote;
-    let x = then_head(answer, w, 6, tree, at, b);
-    let s = expression(tree, answer, list, work, st.wrote(x).moved(b), left);
-    let r = expression(tree, answer, list, work, s, left);
-    let q = stmt(tree, answer, list, work, r, left);
-    else_branch(tree, answer, list, work, q, left)
+    st.wrote = st.wrote.then_head(answer, 6, tree, st.at, b);
+    st.at = b;
+    expression(tree, answer, list, work, st, left);
+    expression(tree, answer, list, work, st, left);
+    stmt(tree, answer, list, work, st, left);
+    else_branch(tree, answer, list, work, st, left);
 }
 
 #[cycle(statements)]
@@ -209,27 +186,25 @@ fn else_branch(
     answer: &mut [u8],
     list: &mut [u32],
     work: &mut [u32],
-    st: Walk,
+    st: &mut Walk,
     left: u32,
-) -> Walk
-    ensures { Walks tree.now (else_of (read_stmt left)) (stm_walk stm_b) st answer.old list.old work.old result answer.new list.new work.new }
+)
+    ensures { Walks tree.now (else_of (read_stmt left)) (stm_walk stm_b) st.old answer.old list.old work.old st.new answer.new list.new work.new }
 {
-    let at = st.at;
-    let tag = below(tree, 2, at);
-    let Read::Number(t, a) = tag else {
-        return st;
+    let Ok((t, a)) = below(tree, 2, st.at) else {
+        return;
     };
-    let w = st.wrote;
     if t == 0 {
-        let x = then_number(answer, w, 0);
-        return st.wrote(x).moved(a);
+        st.wrote = st.wrote.then_number(answer, 0);
+        st.at = a;
+        return;
     }
-    let place = number(tree, a);
-    let Read::Number(_, b) = place else {
-        return st;
+    let Ok((_, b)) = number(tree, a) else {
+        return;
     };
-    let x = then_head(answer, w, 1, tree, a, b);
-    stmt(tree, answer, list, work, st.wrote(x).moved(b), left)
+    st.wrote = st.wrote.then_head(answer, 1, tree, a, b);
+    st.at = b;
+    stmt(tree, answer, list, work, st, left);
 }
 
 #[cycle(statements)]
@@ -238,20 +213,20 @@ fn block(
     answer: &mut [u8],
     list: &mut [u32],
     work: &mut [u32],
-    st: Walk,
+    st: &mut Walk,
     left: u32,
-) -> Walk
-    ensures { Follows Anything tree.now (read_block (read_stmt left)) st answer.old list.old work.old result answer.new list.new work.new }
+)
+    ensures { Follows Anything tree.now (read_block (read_stmt left)) st.old answer.old list.old work.old st.new answer.new list.new work.new }
 {
-    let at = st.at;
-    let place = number(tree, at);
-    let Read::Number(_, a) = place else {
-        return st;
+    let Ok((_, a)) = number(tree, st.at) else {
+        return;
     };
-    let w = st.wrote;
-    let x = then_head(answer, w, 7, tree, at, a);
-    let s = statements(tree, answer, list, work, opened(st.wrote(x).moved(a)), left);
-    closed(work, s, st)
+    let outer = st.tables.scope;
+    st.wrote = st.wrote.then_head(answer, 7, tree, st.at, a);
+    st.at = a;
+    st.push_scope();
+    statements(tree, answer, list, work, st, left);
+    st.pop_scope(work, outer);
 }
 
 // A list of statements.
@@ -261,55 +236,46 @@ pub fn statements(
     answer: &mut [u8],
     list: &mut [u32],
     work: &mut [u32],
-    st: Walk,
+    st: &mut Walk,
     left: u32,
-) -> Walk
-    ensures { Walks tree.now (listed (read_stmt left)) stms_walk st answer.old list.old work.old result answer.new list.new work.new }
+)
+    ensures { Walks tree.now (listed (read_stmt left)) stms_walk st.old answer.old list.old work.old st.new answer.new list.new work.new }
 {
-    let at = st.at;
-    let count = number(tree, at);
-    let Read::Number(n, a) = count else {
-        return st;
+    let Ok((n, a)) = number(tree, st.at) else {
+        return;
     };
-    let w = st.wrote;
-    let x = then_number(answer, w, n);
-    let mut s = st.wrote(x).moved(a);
-    let mut rest = n;
-    while rest != 0 {
-        s = stmt(tree, answer, list, work, s, left);
-        rest -= 1;
+    st.wrote = st.wrote.then_number(answer, n);
+    st.at = a;
+    for _ in 0..n {
+        stmt(tree, answer, list, work, st, left);
     }
-    s
 }
 
 // A body: its identifier takes the next id, after all inside.
-fn body(tree: &[u8], answer: &mut [u8], list: &mut [u32], work: &mut [u32], st: Walk) -> Walk
-    ensures { Walks tree.now (read_body 63) body_ok_walk st answer.old list.old work.old result answer.new list.new work.new }
+fn body(tree: &[u8], answer: &mut [u8], list: &mut [u32], work: &mut [u32], st: &mut Walk)
+    ensures { Walks tree.now (read_body 63) body_ok_walk st.old answer.old list.old work.old st.new answer.new list.new work.new }
 {
-    let s = statements(tree, answer, list, work, opened(st), 63);
-    let r = option_expression(tree, answer, list, work, s, 63);
-    body_id(tree, answer, closed(work, r, st))
+    let outer = st.tables.scope;
+    st.push_scope();
+    statements(tree, answer, list, work, st, 63);
+    option_expression(tree, answer, list, work, st, 63);
+    st.pop_scope(work, outer);
+    body_id(tree, answer, st);
 }
 
 // A poisoned body stays.
-pub fn maybe_body(
-    tree: &[u8],
-    answer: &mut [u8],
-    list: &mut [u32],
-    work: &mut [u32],
-    st: Walk,
-) -> Walk
-    ensures { Walks tree.now (maybe (read_body 63)) body_walk st answer.old list.old work.old result answer.new list.new work.new }
+pub fn maybe_body(tree: &[u8], answer: &mut [u8], list: &mut [u32], work: &mut [u32], st: &mut Walk)
+    ensures { Walks tree.now (maybe (read_body 63)) body_walk st.old answer.old list.old work.old st.new answer.new list.new work.new }
 {
-    let at = st.at;
-    let tag = below(tree, 2, at);
-    let Read::Number(t, a) = tag else {
-        return st;
+    let Ok((t, a)) = below(tree, 2, st.at) else {
+        return;
     };
     if t != 0 {
-        return copy_poison(tree, answer, st.moved(a), 1);
+        st.at = a;
+        copy_poison(tree, answer, st, 1);
+        return;
     }
-    let w = st.wrote;
-    let x = then_number(answer, w, 0);
-    body(tree, answer, list, work, st.wrote(x).moved(a))
+    st.wrote = st.wrote.then_number(answer, 0);
+    st.at = a;
+    body(tree, answer, list, work, st);
 }

@@ -1,4 +1,7 @@
 pub mod Statements
+pub mod Declarations
 pub mod Scripts
+pub mod Depths
+pub mod Layouts
 pub mod Unique
 pub mod Noting

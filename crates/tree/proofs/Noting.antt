@@ -11,16 +11,11 @@ use lib.Seq.{get_or-set_same, get_or-set_other}
 use borrow.Author.Tests.{ltb-true, ltb-false}
 use Rattle.penne.specs.Read.{read_decl}
 use Rattle.fields.specs.declared.counts.Counts as C
-use Rattle.fields.specs.declared.counts.Passed.{Passed}
-use Rattle.fields.specs.declared.counts.Passed.TheVariants.{To}
-use Rattle.tree.specs.declared.script.Layout.{Layout}
-use Rattle.tree.specs.declared.script.Laid.{Laid}
-use Rattle.tree.specs.declared.script.Laid.TheVariants as L
+use Rattle.std.specs.Prelude.{Ok}
 use Rattle.fields.specs.Answers.{Passes}
-use Rattle.tree.specs.Ends.{counts_in, Row, row_at, Sound, Known, Same, Tells, Writes, Notes, Remembers}
+use Rattle.tree.specs.Ends.{counts_in, Row, row_at, Sound, Known, Same, Tells, Writes, Notes}
 use Rattle.penne.proofs.Booleans.{true_false}
-use Rattle.fields.proofs.Fields.{get_d_past}
-use Rattle.tree.proofs.Scripts.{laid_not, out_same}
+use Rattle.std.proofs.lemmas.List.{get_or_past}
 
 -- ONE WORD
 
@@ -84,7 +79,7 @@ module _ {s : List ℕ} {names : ℕ} where
       all_zero : (j : ℕ) → get_or {A = ℕ} (replicate n 0) j 0 ≡ 0
       all_zero j = (elim (ltb j n) as (λ b. ltb j n ≡ b → get_or {A = ℕ} (replicate n 0) j 0 ≡ 0) [
         | true ↦ λ e. get_or-replicate {A = ℕ} n j 0 0 (ltb-true j n e)
-        | false ↦ λ e. get_d_past {A = ℕ} (replicate n 0) j 0 (omega (arith, ltb-false j n e, length-replicate {A = ℕ} n 0))
+        | false ↦ λ e. get_or_past (replicate n 0) j 0 (omega (arith, ltb-false j n e, length-replicate {A = ℕ} n 0))
       ]) refl
 
 module _ (m : List ℕ) {m₁ m₂ m₃ m₄ : List ℕ} (row at next : ℕ) (k more : C.Counts) (e₁ : m₁ ≡ set m (row % 384 * 10) at) (w₁ : Writes m₁ (row % 384 * 10 + 1) k m₂) (w₂ : Writes m₂ (row % 384 * 10 + 5) more m₃) (e₂ : m₄ ≡ set m₃ (row % 384 * 10 + 9) next) where
@@ -123,11 +118,11 @@ module _ (m : List ℕ) {m₁ m₂ m₃ m₄ : List ℕ} (row at next : ℕ) (k 
       upper : (j : ℕ) → j < first + 5 → get_or m₄ j 0 ≡ get_or m₂ j 0
       upper j h = over j (omega arith) ∙ w₂.low j h
 
-  module _ {s : List ℕ} {names : ℕ} (p : Passes read_decl s names k at (To next more)) (g : Known s names m) where
+  module _ {s : List ℕ} {names : ℕ} (p : Passes read_decl s names k at (Ok (next, more))) (g : Known s names m) where
     own_sound : Sound s names (row_at m₄ first)
     own_sound = (elim (ltb (first + 9) (length m)) as (λ b. ltb (first + 9) (length m) ≡ b → Sound s names (row_at m₄ first)) [
       | true ↦ λ e. subst (λ (r : Row). Sound s names r) (sym (own (ltb-true _ _ e))) (record { is = λ _. p })
-      | false ↦ λ e. sound_none (get_d_past m₄ (first + 9) 0 (omega (arith, long, ltb-false (first + 9) (length m) e)))
+      | false ↦ λ e. sound_none (get_or_past m₄ (first + 9) 0 (omega (arith, long, ltb-false (first + 9) (length m) e)))
     ]) refl
 
     other_sound : (j : ℕ) → (j ≡ row % 384 → ⊥) → Sound s names (row_at m₄ (j * 10))
@@ -161,25 +156,10 @@ module _ {m : List ℕ} {i at : ℕ} {k : C.Counts} where
   pub tells_of : {w₁ w₂ : ℕ} {c : C.Counts} {r : Bool} → w₁ ≡ get_or m (i + 9) 0 → (w₁ ≡ 0 → ⊥) → w₂ ≡ get_or m i 0 → w₂ ≡ at → c ≡ counts_in m (i + 1) → Same c k r → Tells m i k at r
   tells_of e₁ z e₂ e e₃ h = record { some = λ q y. z (e₁ ∙ y); begins = λ q. sym e₂ ∙ e; counts = λ q. sym e₃ ∙ h.is q }
 
-pub past_told : {s m : List ℕ} {names at next : ℕ} {k c : C.Counts} {t : Bool} (row : ℕ) → Tells m (row % 384 * 10) k at t → t ≡ true → next ≡ get_or m (row % 384 * 10 + 9) 0 → c ≡ counts_in m (row % 384 * 10 + 5) → Known s names m → Passes read_decl s names k at (To next c)
+pub past_told : {s m : List ℕ} {names at next : ℕ} {k c : C.Counts} {t : Bool} (row : ℕ) → Tells m (row % 384 * 10) k at t → t ≡ true → next ≡ get_or m (row % 384 * 10 + 9) 0 → c ≡ counts_in m (row % 384 * 10 + 5) → Known s names m → Passes read_decl s names k at (Ok (next, c))
 past_told {s} {m} {names} {at} {next} {k} {c} row h e q y g =
     let p = (g.row (row % 384)).is (h.some e) in
-    subst (λ (r : Row). Passes read_decl s names r.before r.at (To r.next r.behind)) (rows h e q y) p
+    subst (λ (r : Row). Passes read_decl s names r.before r.at (Ok (r.next, r.behind))) (rows h e q y) p
   where
     rows : {t : Bool} → Tells m (row % 384 * 10) k at t → t ≡ true → next ≡ get_or m (row % 384 * 10 + 9) 0 → c ≡ counts_in m (row % 384 * 10 + 5) → row_at m (row % 384 * 10) ≡ record { at = at; before = k; behind = c; next = next }
     rows h e q y = λ t. record { at = h.begins e t; before = h.counts e t; behind = sym y t; next = sym q t }
-
--- THE LAYOUT
-
-pub passes_to : {s : List ℕ} {names at next : ℕ} {k more : C.Counts} {r : Passed} → Passes read_decl s names k at r → r ≡ To next more → Passes read_decl s names k at (To next more)
-passes_to {s} {names} {at} {k = k} h e = subst (λ (x : Passed). Passes read_decl s names k at x) e h
-
-module _ {s m m' : List ℕ} where
-  pub unlaid_forgets : {x : Laid} {i p : ℕ} → x ≡ L.Refused i p → Remembers s m x m'
-  unlaid_forgets e = record { keeps = λ l q. laid_not (sym e ∙ q) }
-
-  pub laid_remembers : {l : Layout} → (Known s l.names m → Known s l.names m') → Remembers s m (L.Out l) m'
-  laid_remembers h = record { keeps = λ k q g. subst (λ (y : Layout). Known s y.names m') (out_same q) (h (subst (λ (y : Layout). Known s y.names m) (sym (out_same q)) g)) }
-
-  pub still_remembers : {x : Laid} {l : Layout} → x ≡ L.Out l → Remembers s m x m' → Remembers s m (L.Out l) m'
-  still_remembers e h = record { keeps = λ k q. h.keeps k (e ∙ q) }

@@ -1,11 +1,9 @@
 -- Where declarations end, as rows of ten words tell it.
-use Rattle.std.specs.Prelude.{ℕ, ◌+◌, ◌*◌, ◌≤◌, ◌<◌, ◌≡◌, Bool, true, List, length, get_or}
+use Rattle.std.specs.Prelude.{ℕ, ◌+◌, ◌*◌, ◌≤◌, ◌<◌, ◌≡◌, Bool, true, List, length, get_or, Result, Ok, IfOk}
 use Rattle.penne.specs.Read.{read_decl}
 use Rattle.fields.specs.declared.counts.Counts as C
-use Rattle.fields.specs.declared.counts.Passed.TheVariants.{To}
+use Rattle.fields.specs.declared.refusal.Refusal.{Refusal}
 use Rattle.tree.specs.declared.script.Layout.{Layout}
-use Rattle.tree.specs.declared.script.Laid.{Laid}
-use Rattle.tree.specs.declared.script.Laid.TheVariants as L
 use Rattle.fields.specs.Answers.{Passes}
 
 -- four words from i on, as counts
@@ -25,7 +23,7 @@ row_at m i = record { at = get_or m i 0; before = counts_in m (i + 1); behind = 
 
 -- what the row tells is so
 pub record Sound (s : List ℕ) (names : ℕ) (r : Row) : Type 0 where
-  pub is : (r.next ≡ 0 → ⊥) → Passes read_decl s names r.before r.at (To r.next r.behind)
+  pub is : (r.next ≡ 0 → ⊥) → Passes read_decl s names r.before r.at (Ok (r.next, r.behind))
 
 -- all that the rows of m tell of the tree s, with so many names, is so
 pub record Known (s : List ℕ) (names : ℕ) (m : List ℕ) : Type 0 where
@@ -50,8 +48,8 @@ pub record Writes (m : List ℕ) (i : ℕ) (k : C.Counts) (m' : List ℕ) : Type
 
 -- where it is so that the declaration ends there, and the rows were sound, they are
 pub record Notes (k : C.Counts) (at next : ℕ) (more : C.Counts) (m m' : List ℕ) : Type 0 where
-  pub keeps : {s : List ℕ} {names : ℕ} → Passes read_decl s names k at (To next more) → Known s names m → Known s names m'
+  pub keeps : {s : List ℕ} {names : ℕ} → Passes read_decl s names k at (Ok (next, more)) → Known s names m → Known s names m'
 
 -- where the parts of s were found, rows that were sound still are
-pub record Remembers (s : List ℕ) (m : List ℕ) (r : Laid) (m' : List ℕ) : Type 0 where
-  pub keeps : (l : Layout) → r ≡ L.Out l → Known s l.names m → Known s l.names m'
+pub record Remembers (s : List ℕ) (m : List ℕ) (r : Result Layout Refusal) (m' : List ℕ) : Type 0 where
+  pub keeps : IfOk r (λ l. Known s l.names m → Known s l.names m')

@@ -1,17 +1,12 @@
 -- The whole tree: where its parts stand, and whether it passes.
-use Rattle.std.specs.Prelude.{ℕ, ◌≡◌, true, false, List, [], ltb, length}
+use Rattle.std.specs.Prelude.{ℕ, ◌≡◌, true, false, List, [], ltb, length, Result, Ok, Err, IfOk, IfErr}
 use Rattle.std.proofs.Math.Option.{Option, none, some}
 use Rattle.penne.specs.Reader.{Counts, Cur, Got, got, refused, Reader, ◌>>=◌, ret, num, below, many, each, nothing}
 use Rattle.penne.specs.Tree.{Spot, Decl}
 use Rattle.penne.specs.Read.{DeclKind, k_constant, k_function, k_function_head, k_structure, k_import, k_bad_decl, read_decl, read_names, read_tree, decode, incoming, answered}
-use Rattle.fields.specs.declared.number.Read.{Read}
-use Rattle.fields.specs.declared.number.Read.TheVariants as R
+use Rattle.fields.specs.declared.refusal.Refusal.{Refusal}
 use Rattle.tree.specs.declared.script.Layout.{Layout}
-use Rattle.tree.specs.declared.script.Laid.{Laid}
-use Rattle.tree.specs.declared.script.Laid.TheVariants as L
-use Rattle.tree.specs.declared.Verdict.{Verdict}
-use Rattle.tree.specs.declared.Verdict.TheVariants as W
-use Rattle.fields.specs.Answers.{cursor, Ends, Skips}
+use Rattle.fields.specs.Answers.{cursor, row_of, refusal as refused_by, Ends, Skips}
 
 -- THE VERDICT
 
@@ -25,9 +20,9 @@ unfoldable pub refusal : (depth : Decl Spot → Reader ℕ) → List ℕ → Opt
 refusal depth s = elim (ltb 65535 (length s)) [ true ↦ some (1, 0) | false ↦ refusal_of (decode depth s) ]
 
 -- what the code says of a tree
-unfoldable pub verdict_of : Verdict → Option (ℕ × ℕ)
-verdict_of W.Passes = none
-verdict_of (W.Refused n p) = some (n, p)
+abbrev pub verdict_of : Result (Unit {0}) Refusal → Option (ℕ × ℕ)
+verdict_of (Ok t) = none
+verdict_of (Err e) = some (row_of e.reason, e.place)
 
 -- THE LAYOUT
 
@@ -48,18 +43,9 @@ pub record LaidOut (s : List ℕ) (l : Layout) : Type 0 where
   pub whole : (depth : Decl Spot → Reader ℕ) → read_tree depth s start ≡ (each depth decls >>= λ hs. ret (record { names = table; decls = decls; depths = hs })) s (cursor l.depths l.names counts)
 
 -- r is where the parts of s stand, or the refusal of what stands before the depths
-pub record Lays (s : List ℕ) (r : Laid) : Type 0 where
-  pub out : (l : Layout) → r ≡ L.Out l → LaidOut s l
-  pub not : (n p : ℕ) → r ≡ L.Refused n p → (depth : Decl Spot → Reader ℕ) → read_tree depth s start ≡ refused n p
-
--- a refusal passed on
-abbrev pub not_laid_by : Read → Laid
-not_laid_by (R.Number v next) = L.Refused 0 next
-not_laid_by (R.Refused n p) = L.Refused n p
-
-abbrev pub unlaid_by : Laid → Verdict
-unlaid_by (L.Out l) = W.Passes
-unlaid_by (L.Refused n p) = W.Refused n p
+pub record Lays (s : List ℕ) (r : Result Layout Refusal) : Type 0 where
+  pub out : IfOk r (LaidOut s)
+  pub not : IfErr r (λ e. (depth : Decl Spot → Reader ℕ) → read_tree depth s start ≡ refused_by e)
 
 -- THE DEPTHS
 
@@ -73,11 +59,11 @@ depth_by k_import = below 1
 depth_by k_bad_decl = below 1
 
 -- r is where the depths of any `count` declarations end that come in at `at`, or their refusal
-pub record IncomingDepths (s : List ℕ) (count at : ℕ) (r : Read) : Type 0 where
+pub record IncomingDepths (s : List ℕ) (count at : ℕ) (r : Result ℕ Refusal) : Type 0 where
   pub ends : (ds : List (Decl Spot)) → length ds ≡ count → Skips (each incoming ds) s at r
 
 -- r is where the depths of the declarations end, as an answer has them, or their refusal
-pub record AnsweredDepths (s : List ℕ) (l : Layout) (r : Read) : Type 0 where
+pub record AnsweredDepths (s : List ℕ) (l : Layout) (r : Result ℕ Refusal) : Type 0 where
   pub ends : (ds : List (Decl Spot)) (c : Cur) → many read_decl l.count s (cursor l.first l.names nothing) ≡ got ds c → Ends (each answered ds) s l.names l.depths r
 
 -- s decodes with the depths read so, and its parts stand where l says
@@ -90,17 +76,17 @@ pub record DecodedAs (depth : Decl Spot → Reader ℕ) (s : List ℕ) (l : Layo
   pub decoded : decode depth s ≡ got (record { names = laid.table; decls = laid.decls; depths = depths }) end
 
 -- r is where the parts of a tree stand, or its refusal
-pub record LayoutAs (depth : Decl Spot → Reader ℕ) (s : List ℕ) (r : Laid) : Type 0 where
-  pub out : (l : Layout) → r ≡ L.Out l → DecodedAs depth s l
-  pub not : (n p : ℕ) → r ≡ L.Refused n p → refusal depth s ≡ some (n, p)
+pub record LayoutAs (depth : Decl Spot → Reader ℕ) (s : List ℕ) (r : Result Layout Refusal) : Type 0 where
+  pub out : IfOk r (DecodedAs depth s)
+  pub not : IfErr r (λ e. refusal depth s ≡ some (row_of e.reason, e.place))
 
 -- an answered tree
 abbrev pub Decoded : List ℕ → Layout → Type 0
 Decoded s l = DecodedAs answered s l
 
-abbrev pub AnsweredLayout : List ℕ → Laid → Type 0
+abbrev pub AnsweredLayout : List ℕ → Result Layout Refusal → Type 0
 AnsweredLayout s r = LayoutAs answered s r
 
 -- a tree as it comes in
-abbrev pub IncomingLayout : List ℕ → Laid → Type 0
+abbrev pub IncomingLayout : List ℕ → Result Layout Refusal → Type 0
 IncomingLayout s r = LayoutAs incoming s r

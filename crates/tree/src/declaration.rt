@@ -3,182 +3,151 @@ ghost use Rattle.std.specs.Prelude.{get_or};
 ghost use Rattle.penne.specs.Reader.{listed};
 ghost use Rattle.penne.specs.Read.{read_decl, decl_of, decl_kinds, k_bad_decl, read_constant, read_function, read_function_head, read_structure, read_import, read_param};
 ghost use Rattle.fields.specs.Answers.{Ends, Skips, Passes};
+ghost use Rattle.tree.specs.Parts.{headed};
 
 use super::statement::maybe_body;
-use fields::counts::{Counted, Counts, Passed, count, declaration_counts, entry, pass};
+use fields::counts::{Counts, count, declaration_counts, entry};
 use fields::field::{bytes, past_identifier, two_places};
-use fields::number::{Read, below, number};
+use fields::number::{below, number};
 use fields::poison::{maybe_identifier, poison};
+use fields::refusal::{Reason, Refusal};
 use nodes::node::expression;
 use nodes::value_type::maybe_type;
 
-pub fn declaration(tree: &[u8], names: u32, counts: Counts, at: usize) -> Passed
+#[tactic(auto, using(crate::proofs::Declarations::decl_is))]
+pub fn declaration(
+    tree: &[u8],
+    names: u32,
+    counts: Counts,
+    at: usize,
+) -> Result<(usize, Counts), Refusal>
     ensures { Passes read_decl tree.now names counts at result }
 {
-    let kind = below(tree, 6, at);
-    let Read::Number(k, a) = kind else {
-        return pass(counts, kind);
-    };
-    let more = count(counts, declaration_counts(k));
-    let Counted::Are(c) = more else {
-        return Passed::Refused(8, at);
-    };
-    declaration_of(tree, names, c, a, k)
+    let (kind, next) = below(tree, 6, at)?;
+    let counts = count(counts, declaration_counts(kind)).ok_or(Reason::TooMany.at(at))?;
+    declaration_of(tree, names, counts, next, kind)
 }
 
 // What follows a declaration's kind.
-fn declaration_of(tree: &[u8], names: u32, counts: Counts, at: usize, kind: u32) -> Passed
+#[tactic(auto, using(crate::proofs::Declarations::kinds))]
+fn declaration_of(
+    tree: &[u8],
+    names: u32,
+    counts: Counts,
+    at: usize,
+    kind: u32,
+) -> Result<(usize, Counts), Refusal>
     ensures { Passes (decl_of 63 (get_or decl_kinds kind k_bad_decl)) tree.now names counts at result }
 {
-    match kind {
-        0 => pass(counts, constant(tree, names, at)),
-        1 => function(tree, names, counts, at),
-        2 => function_head(tree, names, counts, at),
-        3 => structure(tree, names, counts, at),
-        4 => pass(counts, import(tree, at)),
-        _ => pass(counts, poison(tree, names, at)),
-    }
+    let at = match kind {
+        0 => constant(tree, names, at)?,
+        1 => return function(tree, names, counts, at),
+        2 => return function_head(tree, names, counts, at),
+        3 => return structure(tree, names, counts, at),
+        4 => import(tree, at)?,
+        _ => poison(tree, names, at)?,
+    };
+    Ok((at, counts))
 }
 
-fn constant(tree: &[u8], names: u32, at: usize) -> Read
+// What begins a constant, a function and a head.
+#[tactic(auto, using(fields::proofs::Parts::laws), unfolding(fields::specs::Answers::forget, crate::specs::Parts::headed, penne::specs::Reader::ret))]
+fn head(tree: &[u8], names: u32, at: usize) -> Result<usize, Refusal>
+    ensures { Ends headed tree.now names at result }
+{
+    let (_, at) = below(tree, 32, at)?;
+    let at = two_places(tree, at)?;
+    past_identifier(tree, names, at)
+}
+
+#[tactic(auto, using(fields::proofs::Parts::laws, crate::proofs::Declarations::constant_is), unfolding(fields::specs::Answers::forget, penne::specs::Reader::ret))]
+fn constant(tree: &[u8], names: u32, at: usize) -> Result<usize, Refusal>
     ensures { Ends (read_constant 63) tree.now names at result }
 {
-    let flags = below(tree, 32, at);
-    let Read::Number(_, a) = flags else {
-        return flags;
-    };
-    let places = two_places(tree, a);
-    let Read::Number(_, b) = places else {
-        return places;
-    };
-    let identifier = past_identifier(tree, names, b);
-    let Read::Number(_, c) = identifier else {
-        return identifier;
-    };
-    let value = expression(tree, names, c, 63);
-    let Read::Number(_, d) = value else {
-        return value;
-    };
-    maybe_type(tree, names, true, d, 63)
+    let at = head(tree, names, at)?;
+    let at = expression(tree, names, at, 63)?;
+    maybe_type(tree, names, true, at, 63)
 }
 
-fn function(tree: &[u8], names: u32, counts: Counts, at: usize) -> Passed
+#[tactic(auto, using(fields::proofs::Parts::laws, crate::proofs::Declarations::function_is), unfolding(fields::specs::Answers::forget, penne::specs::Reader::ret))]
+fn function(tree: &[u8], names: u32, counts: Counts, at: usize) -> Result<(usize, Counts), Refusal>
     ensures { Passes (read_function 63) tree.now names counts at result }
 {
-    let flags = below(tree, 32, at);
-    let Read::Number(_, a) = flags else {
-        return pass(counts, flags);
-    };
-    let places = two_places(tree, a);
-    let Read::Number(_, b) = places else {
-        return pass(counts, places);
-    };
-    let identifier = past_identifier(tree, names, b);
-    let Read::Number(_, c) = identifier else {
-        return pass(counts, identifier);
-    };
-    let list = parameters(tree, names, counts, false, c);
-    let Passed::To(d, some) = list else {
-        return list;
-    };
-    let inside = maybe_body(tree, names, some, d, 63);
-    let Passed::To(e, more) = inside else {
-        return inside;
-    };
-    pass(more, maybe_type(tree, names, false, e, 63))
+    let at = head(tree, names, at)?;
+    let (at, counts) = parameters(tree, names, counts, false, at)?;
+    let (at, counts) = maybe_body(tree, names, counts, at, 63)?;
+    let at = maybe_type(tree, names, false, at, 63)?;
+    Ok((at, counts))
 }
 
-fn function_head(tree: &[u8], names: u32, counts: Counts, at: usize) -> Passed
+#[tactic(auto, using(fields::proofs::Parts::laws, crate::proofs::Declarations::function_head_is), unfolding(fields::specs::Answers::forget, penne::specs::Reader::ret))]
+fn function_head(
+    tree: &[u8],
+    names: u32,
+    counts: Counts,
+    at: usize,
+) -> Result<(usize, Counts), Refusal>
     ensures { Passes (read_function_head 63) tree.now names counts at result }
 {
-    let flags = below(tree, 32, at);
-    let Read::Number(_, a) = flags else {
-        return pass(counts, flags);
-    };
-    let places = two_places(tree, a);
-    let Read::Number(_, b) = places else {
-        return pass(counts, places);
-    };
-    let identifier = past_identifier(tree, names, b);
-    let Read::Number(_, c) = identifier else {
-        return pass(counts, identifier);
-    };
-    let list = parameters(tree, names, counts, false, c);
-    let Passed::To(d, more) = list else {
-        return list;
-    };
-    pass(more, maybe_type(tree, names, false, d, 63))
+    let at = head(tree, names, at)?;
+    let (at, counts) = parameters(tree, names, counts, false, at)?;
+    let at = maybe_type(tree, names, false, at, 63)?;
+    Ok((at, counts))
 }
 
-fn structure(tree: &[u8], names: u32, counts: Counts, at: usize) -> Passed
+#[tactic(auto, using(fields::proofs::Parts::laws), unfolding(fields::specs::Answers::forget, penne::specs::Read::read_structure, penne::specs::Read::place, penne::specs::Reader::ret))]
+fn structure(tree: &[u8], names: u32, counts: Counts, at: usize) -> Result<(usize, Counts), Refusal>
     ensures { Passes (read_structure 63) tree.now names counts at result }
 {
-    let flags = below(tree, 32, at);
-    let Read::Number(_, a) = flags else {
-        return pass(counts, flags);
-    };
-    let place = number(tree, a);
-    let Read::Number(_, b) = place else {
-        return pass(counts, place);
-    };
-    let identifier = past_identifier(tree, names, b);
-    let Read::Number(_, c) = identifier else {
-        return pass(counts, identifier);
-    };
-    let members = parameters(tree, names, counts, true, c);
-    let Passed::To(d, more) = members else {
-        return members;
-    };
-    pass(more, maybe_type(tree, names, false, d, 63))
+    let (_, at) = below(tree, 32, at)?;
+    let (_, at) = number(tree, at)?;
+    let at = past_identifier(tree, names, at)?;
+    let (at, counts) = parameters(tree, names, counts, true, at)?;
+    let at = maybe_type(tree, names, false, at, 63)?;
+    Ok((at, counts))
 }
 
-fn import(tree: &[u8], at: usize) -> Read
+#[tactic(auto, using(fields::proofs::Parts::laws), unfolding(fields::specs::Answers::forget, penne::specs::Read::read_import, penne::specs::Read::place, penne::specs::Reader::ret))]
+fn import(tree: &[u8], at: usize) -> Result<usize, Refusal>
     ensures { Skips read_import tree.now at result }
 {
-    let filename = bytes(tree, at);
-    let Read::Number(_, a) = filename else {
-        return filename;
-    };
-    number(tree, a)
+    let at = bytes(tree, at)?;
+    let (_, at) = number(tree, at)?;
+    Ok(at)
 }
 
 // A list of parameters, or of members: then `own` is set, and kind 23 is refused in their types.
-pub fn parameters(tree: &[u8], names: u32, counts: Counts, own: bool, at: usize) -> Passed
+#[tactic(auto, using(fields::proofs::Lists::listings))]
+pub fn parameters(
+    tree: &[u8],
+    names: u32,
+    counts: Counts,
+    own: bool,
+    at: usize,
+) -> Result<(usize, Counts), Refusal>
     ensures { Passes (listed (read_param 63 own)) tree.now names counts at result }
 {
-    let count = number(tree, at);
-    let Read::Number(n, a) = count else {
-        return pass(counts, count);
-    };
-    let mut rest = n;
-    let mut cur = a;
-    let mut so_far = counts;
-    while rest != 0 {
-        let one = parameter(tree, names, so_far, own, cur);
-        let Passed::To(next, more) = one else {
-            return one;
-        };
-        cur = next;
-        so_far = more;
-        rest -= 1;
+    let (count, mut at) = number(tree, at)?;
+    let mut counts = counts;
+    for _ in 0..count {
+        (at, counts) = parameter(tree, names, counts, own, at)?;
     }
-    Passed::To(cur, so_far)
+    Ok((at, counts))
 }
 
-fn parameter(tree: &[u8], names: u32, counts: Counts, own: bool, at: usize) -> Passed
+#[tactic(auto, using(fields::proofs::Parts::laws, fields::proofs::Counting::counting_is), unfolding(fields::specs::Answers::forget, fields::specs::Answers::together, penne::specs::Read::read_param, penne::specs::Read::place, penne::specs::Reader::counted, penne::specs::Reader::ret))]
+fn parameter(
+    tree: &[u8],
+    names: u32,
+    counts: Counts,
+    own: bool,
+    at: usize,
+) -> Result<(usize, Counts), Refusal>
     ensures { Passes (read_param 63 own) tree.now names counts at result }
 {
-    let place = number(tree, at);
-    let Read::Number(_, a) = place else {
-        return pass(counts, place);
-    };
-    let more = count(counts, entry());
-    let Counted::Are(c) = more else {
-        return Passed::Refused(8, at);
-    };
-    let identifier = maybe_identifier(tree, names, a);
-    let Read::Number(_, b) = identifier else {
-        return pass(c, identifier);
-    };
-    pass(c, maybe_type(tree, names, own, b, 63))
+    let (_, next) = number(tree, at)?;
+    let counts = count(counts, entry()).ok_or(Reason::TooMany.at(at))?;
+    let at = maybe_identifier(tree, names, next)?;
+    let at = maybe_type(tree, names, own, at, 63)?;
+    Ok((at, counts))
 }

@@ -6,20 +6,28 @@ ghost use Rattle.fields.specs.Answers.{Passes};
 ghost use Rattle.tree.specs.Ends.{counts_in, Known, Tells, Same, Writes, Notes};
 
 use super::declaration::declaration;
-use fields::counts::{Counts, Passed};
+use fields::counts::Counts;
+use fields::refusal::Refusal;
 use memory::words::{set_word, word};
 
 // 384 rows: as many as there can be containers and functions.
 pub const END_WORDS: usize = 3840;
 
 // Where the declaration at `at` ends, as that row tells, or else read.
-pub fn past(tree: &[u8], ends: &[u32], names: u32, counts: Counts, at: usize, row: u32) -> Passed
+pub fn past(
+    tree: &[u8],
+    ends: &[u32],
+    names: u32,
+    counts: Counts,
+    at: usize,
+    row: u32,
+) -> Result<(usize, Counts), Refusal>
     ensures { Known tree.now names ends.now → Passes read_decl tree.now names counts at result }
 {
     let i = row % 384 * 10;
     if tells(ends, i, counts, at) {
         let next = word(ends, i as usize + 9);
-        return Passed::To(next as usize, counts_in(ends, i, 5));
+        return Ok((next as usize, counts_in(ends, i, 5)));
     }
     declaration(tree, names, counts, at)
 }
@@ -29,28 +37,18 @@ fn tells(ends: &[u32], i: u32, counts: Counts, at: usize) -> bool
     ensures { Tells ends.now i counts at result }
 {
     let first = i as usize;
-    if word(ends, first + 9) == 0 {
-        return false;
-    }
-    if word(ends, first) as usize != at {
-        return false;
-    }
-    same_counts(counts_in(ends, i, 1), counts)
+    word(ends, first + 9) != 0
+        && word(ends, first) as usize == at
+        && same_counts(counts_in(ends, i, 1), counts)
 }
 
 fn same_counts(a: Counts, b: Counts) -> bool
     ensures { Same a b result }
 {
-    if a.containers != b.containers {
-        return false;
-    }
-    if a.functions != b.functions {
-        return false;
-    }
-    if a.entries != b.entries {
-        return false;
-    }
-    a.statements == b.statements
+    a.containers == b.containers
+        && a.functions == b.functions
+        && a.entries == b.entries
+        && a.statements == b.statements
 }
 
 // The four words of a row from its word k on.
@@ -80,16 +78,13 @@ fn set_counts(ends: &mut [u32], i: u32, k: u32, counts: Counts)
 pub fn note(ends: &mut [u32], row: u32, counts: Counts, at: usize, next: usize, more: Counts)
     ensures { Notes counts at next more ends.old ends.new }
 {
-    if 4294967295 < at {
+    let (Ok(begin), Ok(end)) = (u32::try_from(at), u32::try_from(next)) else {
         return;
-    }
-    if 4294967295 < next {
-        return;
-    }
+    };
     let i = row % 384 * 10;
     let first = i as usize;
-    set_word(ends, first, at as u32);
+    set_word(ends, first, begin);
     set_counts(ends, i, 1, counts);
     set_counts(ends, i, 5, more);
-    set_word(ends, first + 9, next as u32);
+    set_word(ends, first + 9, end);
 }

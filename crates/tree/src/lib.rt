@@ -9,82 +9,55 @@ pub mod script; // names, declarations and depths together
 ghost use Rattle.std.specs.Prelude.{◌≡◌};
 ghost use Rattle.penne.specs.Read.{incoming, answered};
 ghost use Rattle.tree.specs.Ends.{Remembers};
-ghost use Rattle.tree.specs.Script.{verdict_of, refusal, unlaid_by, IncomingLayout, AnsweredLayout};
+ghost use Rattle.tree.specs.Script.{verdict_of, refusal, IncomingLayout, AnsweredLayout};
 
-use fields::number::Read;
-use script::{Laid, answered_depths, incoming_depths, lay_out, not_laid};
-
-#[derive(Clone, Copy)]
-pub enum Verdict {
-    Passes,
-    Refused(u32, usize),
-}
+use fields::refusal::{Reason, Refusal};
+use script::{Layout, answered_depths, incoming_depths, lay_out};
 
 // The tree as it comes in: every depth is 0.
-pub fn incoming(tree: &[u8]) -> Verdict
+#[tactic(auto, using(crate::proofs::Layouts::passes_out))]
+pub fn incoming(tree: &[u8]) -> Result<(), Refusal>
     ensures { verdict_of result ≡ refusal incoming tree.now }
 {
-    let mut none = [0u32; 1];
-    unlaid(incoming_layout(tree, &mut none))
+    incoming_layout(tree, &mut [0])?;
+    Ok(())
 }
 
 // The same, with where its parts stand. It is noted where each declaration ends.
-pub fn incoming_layout(tree: &[u8], ends: &mut [u32]) -> Laid
+pub fn incoming_layout(tree: &[u8], ends: &mut [u32]) -> Result<Layout, Refusal>
     ensures { IncomingLayout tree.now result × Remembers tree.now ends.old result ends.new }
 {
     if 65535 < tree.len() {
-        return Laid::Refused(1, 0);
+        return Err(Reason::TreeTooLong.at(0));
     }
-    let laid = lay_out(tree, ends);
-    let Laid::Out(l) = laid else {
-        return laid;
-    };
-    let count = l.count;
-    let at = l.depths;
-    let depths = incoming_depths(tree, count, at);
-    let Read::Number(_, end) = depths else {
-        return not_laid(depths);
-    };
+    let layout = lay_out(tree, ends)?;
+    let end = incoming_depths(tree, layout.count, layout.depths)?;
     if end < tree.len() {
-        return Laid::Refused(10, end);
+        return Err(Reason::LeftOver.at(end));
     }
-    Laid::Out(l)
+    Ok(layout)
 }
 
 // The tree as an answer has it: constants and structures may have any depth.
-pub fn answered(tree: &[u8]) -> Verdict
+#[tactic(auto, using(crate::proofs::Layouts::passes_out))]
+pub fn answered(tree: &[u8]) -> Result<(), Refusal>
     ensures { verdict_of result ≡ refusal answered tree.now }
 {
-    unlaid(answered_layout(tree))
+    answered_layout(tree)?;
+    Ok(())
 }
 
 // The same, with where its parts stand.
-pub fn answered_layout(tree: &[u8]) -> Laid
+pub fn answered_layout(tree: &[u8]) -> Result<Layout, Refusal>
     ensures { AnsweredLayout tree.now result }
 {
     if 65535 < tree.len() {
-        return Laid::Refused(1, 0);
+        return Err(Reason::TreeTooLong.at(0));
     }
-    let mut none = [0u32; 1];
-    let laid = lay_out(tree, &mut none);
-    let Laid::Out(l) = laid else {
-        return laid;
-    };
-    let depths = answered_depths(tree, l);
-    let Read::Number(_, at) = depths else {
-        return not_laid(depths);
-    };
-    if at < tree.len() {
-        return Laid::Refused(10, at);
+    let layout = lay_out(tree, &mut [0])?;
+    let end = answered_depths(tree, layout)?;
+    if end < tree.len() {
+        return Err(Reason::LeftOver.at(end));
     }
-    Laid::Out(l)
-}
-
-fn unlaid(laid: Laid) -> Verdict
-    ensures { result ≡ unlaid_by laid }
-{
-    match laid {
-        Laid::Refused(number, place) => Verdict::Refused(number, place),
-        Laid::Out(_) => Verdict::Passes,
-    }
+    Ok(layout)
 }

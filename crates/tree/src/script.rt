@@ -1,15 +1,16 @@
 // The whole tree: names, declarations, depths.
-ghost use Rattle.std.specs.Prelude.{◌≡◌, get_or};
+ghost use Rattle.std.specs.Prelude.{get_or};
 ghost use Rattle.penne.specs.Reader.{many};
 ghost use Rattle.penne.specs.Read.{read_decl, decl_kinds, k_bad_decl};
 ghost use Rattle.fields.specs.Answers.{Gives, Passes};
 ghost use Rattle.tree.specs.Ends.{Known, Remembers};
-ghost use Rattle.tree.specs.Script.{Lays, not_laid_by, depth_by, IncomingDepths, AnsweredDepths};
+ghost use Rattle.tree.specs.Script.{Lays, depth_by, IncomingDepths, AnsweredDepths};
 
 use super::declaration::declaration;
 use super::ends::note;
-use fields::counts::{Counts, Passed};
-use fields::number::{Read, below, number};
+use fields::counts::Counts;
+use fields::number::{below, number};
+use fields::refusal::{Reason, Refusal};
 use name_table::name_table;
 
 // Where the parts of a tree stand: how many names, how many declarations, the first declaration, the first depth.
@@ -21,63 +22,24 @@ pub struct Layout {
     pub depths: usize,
 }
 
-#[derive(Clone, Copy)]
-pub enum Laid {
-    Out(Layout),
-    Refused(u32, usize),
-}
-
 // The tree up to its depths. It is noted where each declaration ends.
-pub fn lay_out(tree: &[u8], ends: &mut [u32]) -> Laid
+#[tactic(auto, using(crate::proofs::Scripts::lays))]
+pub fn lay_out(tree: &[u8], ends: &mut [u32]) -> Result<Layout, Refusal>
     ensures { Lays tree.now result × Remembers tree.now ends.old result ends.new }
 {
-    let names = number(tree, 0);
-    let Read::Number(n, a) = names else {
-        return not_laid(names);
-    };
-    if 1024 < n {
-        return Laid::Refused(8, 0);
+    let (names, at) = number(tree, 0)?;
+    if 1024 < names {
+        return Err(Reason::TooMany.at(0));
     }
-    let table = name_table(tree, n, a);
-    let Read::Number(_, b) = table else {
-        return not_laid(table);
-    };
-    let count = number(tree, b);
-    let Read::Number(m, c) = count else {
-        return not_laid(count);
-    };
-    let list = declarations(
-        tree,
-        ends,
-        n,
-        Counts {
-            containers: 0,
-            functions: 0,
-            entries: 0,
-            statements: 0,
-        },
-        m,
-        c,
-    );
-    match list {
-        Passed::To(d, _) => Laid::Out(Layout {
-            names: n,
-            count: m,
-            first: c,
-            depths: d,
-        }),
-        Passed::Refused(number, place) => Laid::Refused(number, place),
-    }
-}
-
-// A refusal passed on.
-pub fn not_laid(r: Read) -> Laid
-    ensures { result ≡ not_laid_by r }
-{
-    match r {
-        Read::Refused(number, place) => Laid::Refused(number, place),
-        Read::Number(_, at) => Laid::Refused(0, at),
-    }
+    let at = name_table(tree, names, at)?;
+    let (count, first) = number(tree, at)?;
+    let (depths, _) = declarations(tree, ends, names, Counts::NONE, count, first)?;
+    Ok(Layout {
+        names,
+        count,
+        first,
+        depths,
+    })
 }
 
 // So many declarations, each noted in the row of its number, counted from the last.
@@ -88,84 +50,55 @@ pub fn declarations(
     counts: Counts,
     count: u32,
     at: usize,
-) -> Passed
+) -> Result<(usize, Counts), Refusal>
     ensures { Passes (many read_decl count) tree.now names counts at result × (Known tree.now names ends.old → Known tree.now names ends.new) }
 {
-    let mut rest = count;
-    let mut cur = at;
-    let mut so_far = counts;
-    while rest != 0 {
-        let one = declaration(tree, names, so_far, cur);
-        let Passed::To(next, more) = one else {
-            return one;
-        };
-        note(ends, rest, so_far, cur, next, more);
-        cur = next;
-        so_far = more;
-        rest -= 1;
+    let mut at = at;
+    let mut counts = counts;
+    for done in 0..count {
+        let (next, more) = declaration(tree, names, counts, at)?;
+        note(ends, count - done, counts, at, next, more);
+        at = next;
+        counts = more;
     }
-    Passed::To(cur, so_far)
+    Ok((at, counts))
 }
 
 // A depth for each of so many declarations, all 0.
-pub fn incoming_depths(tree: &[u8], count: u32, at: usize) -> Read
+#[tactic(auto, using(crate::proofs::Depths::comings))]
+pub fn incoming_depths(tree: &[u8], count: u32, at: usize) -> Result<usize, Refusal>
     ensures { IncomingDepths tree.now count at result }
 {
-    let mut rest = count;
-    let mut cur = at;
-    while rest != 0 {
-        let one = below(tree, 1, cur);
-        let Read::Number(_, next) = one else {
-            return one;
-        };
-        cur = next;
-        rest -= 1;
+    let mut at = at;
+    for _ in 0..count {
+        (_, at) = below(tree, 1, at)?;
     }
-    Read::Number(0, cur)
+    Ok(at)
 }
 
 // An answered depth, by the kind of its declaration.
-fn depth_of(tree: &[u8], kind: u32, at: usize) -> Read
+#[tactic(auto, using(crate::proofs::Depths::depth_rest), unfolding(crate::specs::Script::depth_by, penne::specs::Read::decl_kinds))]
+fn depth_of(tree: &[u8], kind: u32, at: usize) -> Result<(u32, usize), Refusal>
     ensures { Gives (depth_by (get_or decl_kinds kind k_bad_decl)) tree.now at result }
 {
     match kind {
-        0 => number(tree, at),
-        3 => number(tree, at),
+        0 | 3 => number(tree, at),
         _ => below(tree, 1, at),
     }
 }
 
 // The depths of an answered tree. The declarations are read again beside them, since no memory holds their kinds.
-pub fn answered_depths(tree: &[u8], layout: Layout) -> Read
+#[tactic(auto, using(crate::proofs::Depths::agains), unfolding(penne::specs::Reader::nothing))]
+pub fn answered_depths(tree: &[u8], layout: Layout) -> Result<usize, Refusal>
     ensures { AnsweredDepths tree.now layout result }
 {
-    let names = layout.names;
-    let mut rest = layout.count;
     let mut declared = layout.first;
-    let mut so_far = Counts {
-        containers: 0,
-        functions: 0,
-        entries: 0,
-        statements: 0,
-    };
-    let mut cur = layout.depths;
-    while rest != 0 {
-        let kind = below(tree, 6, declared);
-        let Read::Number(k, _) = kind else {
-            return kind;
-        };
-        let one = declaration(tree, names, so_far, declared);
-        let Passed::To(behind, more) = one else {
-            return Read::Refused(0, declared);
-        };
-        let depth = depth_of(tree, k, cur);
-        let Read::Number(_, next) = depth else {
-            return depth;
-        };
-        declared = behind;
-        so_far = more;
-        cur = next;
-        rest -= 1;
+    let mut counts = Counts::NONE;
+    let mut at = layout.depths;
+    for _ in 0..layout.count {
+        let (kind, _) = below(tree, 6, declared)?;
+        (declared, counts) = declaration(tree, layout.names, counts, declared)?;
+        (_, at) = depth_of(tree, kind, at)?;
     }
-    Read::Number(0, cur)
+    Ok(at)
 }

@@ -9,6 +9,8 @@ use native.Mathlib.Omega.{arith}
 use lib.Dec.{eqb}
 use lib.ListN.{get_or}
 use borrow.Author.Tests.{eqb-true, eqb-false}
+use Rattle.std.specs.Prelude.{Result, Ok, Err}
+use Rattle.fields.specs.declared.refusal.Refusal.{Refusal}
 use Rattle.penne.specs.Reader.{Counts, Cur, Reader, ret, num, below}
 use Rattle.penne.specs.Tree.{Spot, Ident, Poison, Maybe, ok, err, Ty, plain, array, array_with_named_length, arraylike, struct, word, unresolved, nameless, pointer, view}
 use Rattle.penne.specs.Read.{ident, read_ty, ty_of, TyKind, ty_kinds, k_plain, k_array, k_named_length, k_arraylike, k_struct, k_word, k_unresolved, k_nameless, k_pointer, k_view}
@@ -17,41 +19,39 @@ use Rattle.penne.specs.State as S
 use Rattle.penne.specs.Scopes.{Analyzer, Pass, use_constant, use_struct}
 use Rattle.penne.specs.Variables.{analyze_type}
 use Rattle.penne.proofs.IdsPass.{still_type, still_constant}
-use Rattle.fields.specs.declared.number.Read.{Read}
-use Rattle.fields.specs.declared.number.Read.TheVariants.{Number, Refused}
 use Rattle.fields.specs.Answers.{cursor, number_of, Gives}
-use Rattle.fields.proofs.Fields.{get_d_past}
+use Rattle.std.proofs.lemmas.List.{get_or_past}
 use Rattle.nodes.proofs.Types.{run}
 use Rattle.answer.specs.declared.wrote.Wrote.{Wrote}
 use Rattle.answer.specs.Out.{Put}
 use Rattle.walk.specs.declared.state.Walk.{Walk}
 use Rattle.walk.specs.declared.fault.Fault.{Fault}
-use Rattle.walk.specs.Walking.{Writes, here, Ground, Is, say, Leads, Walks, fault_b, ok_b, Answers, fine, bad, Tried, Tries}
-use Rattle.walk.proofs.Leading.{never, same_value, same_cur, tries, leads_such, leads_deep, leads_got, leads_call, leads_tried, told_fine, told_bad, is_same, leads_at}
-use Rattle.walk.proofs.Writing.{here_wrote, wrote, out_is, rewound}
+use Rattle.walk.specs.Walking.{with_wrote, here, Ground, Is, say, Leads, Walks, fault_b, ok_b, Answers, fine, bad, Tried, Tries}
+use Rattle.walk.proofs.Leading.{never, same_value, same_cur, tries, leads_such, leads_deep, leads_got, leads_call, leads_tried, told_fine, told_bad, is_same}
+use Rattle.walk.proofs.Writing.{wrote, out_is, rewound}
 use Rattle.types.specs.Typing.{say_number, passing, element_b, named_b}
 use Rattle.types.proofs.Trying.{by, Extends, try_ret, answers_by, afterwards, tries_by, tries_fine, tries_bad}
 
 -- ITS KIND
 
-module _ (own : Bool) {t : List ℕ} {P : Ty Spot → Cur → Type 0} {names at : ℕ} {k : Counts} {m : Read} (g : Gives (below 26) t at m) where
-  pub type_unread : (left : ℕ) {i p : ℕ} → m ≡ Refused i p → Leads (read_ty left own) t (cursor at names k) P
-  unfolding read_ty number_of
+module _ (own : Bool) {t : List ℕ} {P : Ty Spot → Cur → Type 0} {names at : ℕ} {k : Counts} {m : Result (ℕ × ℕ) Refusal} (g : Gives (below 26) t at m) where
+  pub type_unread : (left : ℕ) {x : Refusal} → m ≡ Err x → Leads (read_ty left own) t (cursor at names k) P
+  unfolding read_ty
   type_unread zero e = leads_deep (below 26)
-  type_unread (suc l) e = leads_such (below 26) _ 9 _ λ y d h _. never (sym (ap (number_of names k) e) ∙ g.is names k ∙ h)
+  type_unread (suc l) e = leads_such (below 26) _ 9 _ λ y d h _. never (sym (g.is names k ∙ ap (number_of names k) e) ∙ h)
 
   pub type_deep : (left : ℕ) → left ≡ 0 → Leads (read_ty left own) t (cursor at names k) P
   unfolding read_ty
   type_deep zero z = leads_deep (below 26)
   type_deep (suc l) z = absurd (omega arith)
 
-  pub type_in : (left : ℕ) {v n : ℕ} → (left ≡ 0 → ⊥) → m ≡ Number v n → Leads (ty_of (read_ty (left - 1) own) (read_ty (left - 1) false) v (get_or ty_kinds v k_plain)) t (cursor n names k) P → Leads (read_ty left own) t (cursor at names k) P
-  unfolding read_ty number_of
+  pub type_in : (left : ℕ) {v n : ℕ} → (left ≡ 0 → ⊥) → m ≡ Ok (v, n) → Leads (ty_of (read_ty (left - 1) own) (read_ty (left - 1) false) v (get_or ty_kinds v k_plain)) t (cursor n names k) P → Leads (read_ty left own) t (cursor at names k) P
+  unfolding read_ty
   type_in zero z e h = absurd (z refl)
   type_in (suc l) {v} {n} z e h =
       let q : suc l - 1 ≡ l = omega arith in
       leads_such (below 26) _ 9 _ λ y d j _.
-      let u = sym (ap (number_of names k) e) ∙ g.is names k ∙ j in
+      let u = sym (g.is names k ∙ ap (number_of names k) e) ∙ j in
       subst (λ (x : ℕ). Leads (ty_of (read_ty l own) (read_ty l false) x (get_or ty_kinds x k_plain)) t d P) (same_value u) (subst (λ (c : Cur). Leads (ty_of (read_ty l own) (read_ty l false) v (get_or ty_kinds v k_plain)) t c P) (same_cur u)
       (subst (λ (x : ℕ). Leads (ty_of (read_ty x own) (read_ty x false) v (get_or ty_kinds v k_plain)) t (cursor n names k) P) q h))
 
@@ -103,17 +103,14 @@ module _ (a b : Reader (Ty Spot)) {t : List ℕ} {s : Walk} {o l w : List ℕ} {
   unfolding ty_kinds ty_of
   type_word k e h = rw e h
 
-  pub type_arraylike : (k : ℕ) → (k ≡ 14 → ⊥) → (k ≡ 15 → ⊥) → 14 ≤ k → k < 20 → Tries t a analyze_type (element_b k) s o l w r f o' l' w' → Tries t (ty_of a b k (get_or ty_kinds k k_plain)) analyze_type ty_b s o l w r f o' l' w'
+  arraylike_go : (k : ℕ) → 16 ≤ k → k < 20 → Tries t a analyze_type (element_b k) s o l w r f o' l' w' → Tries t (ty_of a b k (get_or ty_kinds k k_plain)) analyze_type ty_b s o l w r f o' l' w'
   unfolding ty_kinds ty_of ty_b
-  type_arraylike k n₁ n₂ lo hi h = as_kind k k_arraylike (run ty_kinds 16 4 k_arraylike k_plain refl k (omega arith) (omega arith)) (tries_by (record { same = arraylike_pass k; bytes = λ y. refl }) h)
+  arraylike_go k lo hi h = as_kind k k_arraylike (run ty_kinds 16 4 k_arraylike k_plain refl k lo hi) (tries_by (record { same = arraylike_pass k; bytes = λ y. refl }) h)
 
-  pub type_struct : (k : ℕ) → k ≡ 20 → Tries t ident use_struct (named_b k) s o l w r f o' l' w' → Tries t (ty_of a b k (get_or ty_kinds k k_plain)) analyze_type ty_b s o l w r f o' l' w'
+  pub type_structure : (k : ℕ) → (k ≡ 20) ⊎ (k ≡ 22) → Tries t ident use_struct (named_b k) s o l w r f o' l' w' → Tries t (ty_of a b k (get_or ty_kinds k k_plain)) analyze_type ty_b s o l w r f o' l' w'
   unfolding ty_kinds ty_of ty_b
-  type_struct k e h = as_kind k k_struct (rw e) (tries_by (record { same = struct_pass; bytes = λ y. rw e }) h)
-
-  pub type_unresolved : (k : ℕ) → k ≡ 22 → Tries t ident use_struct (named_b k) s o l w r f o' l' w' → Tries t (ty_of a b k (get_or ty_kinds k k_plain)) analyze_type ty_b s o l w r f o' l' w'
-  unfolding ty_kinds ty_of ty_b
-  type_unresolved k e h = as_kind k k_unresolved (rw e) (tries_by (record { same = unresolved_pass; bytes = λ y. rw e }) h)
+  type_structure k (inl e) h = as_kind k k_struct (rw e) (tries_by (record { same = struct_pass; bytes = λ y. rw e }) h)
+  type_structure k (inr e) h = as_kind k k_unresolved (rw e) (tries_by (record { same = unresolved_pass; bytes = λ y. rw e }) h)
 
   pointer_go : (k : ℕ) → k ≡ 24 → Tries t b analyze_type (element_b k) s o l w r f o' l' w' → Tries t (ty_of a b k (get_or ty_kinds k k_plain)) analyze_type ty_b s o l w r f o' l' w'
   unfolding ty_kinds ty_of ty_b
@@ -123,11 +120,17 @@ module _ (a b : Reader (Ty Spot)) {t : List ℕ} {s : Walk} {o l w : List ℕ} {
   unfolding ty_kinds ty_of ty_b
   view_go k e h = as_kind k k_view (rw e) (tries_by (record { same = view_pass; bytes = λ y. rw e }) h)
 
-  pub type_behind : (k : ℕ) → 24 ≤ k → k < 26 → Tries t b analyze_type (element_b k) s o l w r f o' l' w' → Tries t (ty_of a b k (get_or ty_kinds k k_plain)) analyze_type ty_b s o l w r f o' l' w'
-  type_behind k lo hi h = (elim (eqb k 24) as (λ z. eqb k 24 ≡ z → Tries t (ty_of a b k (get_or ty_kinds k k_plain)) analyze_type ty_b s o l w r f o' l' w') [
+  behind_go : (k : ℕ) → 24 ≤ k → k < 26 → Tries t b analyze_type (element_b k) s o l w r f o' l' w' → Tries t (ty_of a b k (get_or ty_kinds k k_plain)) analyze_type ty_b s o l w r f o' l' w'
+  behind_go k lo hi h = (elim (eqb k 24) as (λ z. eqb k 24 ≡ z → Tries t (ty_of a b k (get_or ty_kinds k k_plain)) analyze_type ty_b s o l w r f o' l' w') [
     | true ↦ λ z. pointer_go k (eqb-true k 24 z) h
     | false ↦ λ z. let y : k ≡ 24 → ⊥ = eqb-false k 24 z in view_go k (omega arith) h
   ]) refl
+
+  -- the element of an arraylike type (16 to 19), which a reads; of a pointer or view (24, 25), which b reads
+  pub type_element : (k : ℕ) → 16 ≤ k → k < 26 → (k < 20) ⊎ (24 ≤ k) → Tries t a analyze_type (element_b k) s o l w r f o' l' w' → Tries t b analyze_type (element_b k) s o l w r f o' l' w'
+      → Tries t (ty_of a b k (get_or ty_kinds k k_plain)) analyze_type ty_b s o l w r f o' l' w'
+  type_element k lo hi (inl h) x y = arraylike_go k lo h x
+  type_element k lo hi (inr h) x y = behind_go k h hi y
 
 -- NOTHING BEHIND IT
 
@@ -140,29 +143,24 @@ plain_tried x k a c p e i =
       told = λ _. subst (λ (v : Maybe Spot (Ty Spot) × Analyzer Spot). Answers none v.0) q fine;
     }
 
-module _ (a b : Reader (Ty Spot)) {t : List ℕ} {s : Walk} {o l w : List ℕ} {r : Walk} {o' l' w' : List ℕ} (k : ℕ) (v : Walks t (ret k) say_number s o l w r o' l' w') where
-  plain_go : (x : Ty Spot) → ((u : Analyzer Spot) → analyze_type x u ≡ (ok x, u)) → ty_b x ≡ num_b k → Tries t (ret x) analyze_type ty_b s o l w r none o' l' w'
+module _ (a b : Reader (Ty Spot)) {t : List ℕ} {s : Walk} {o l w : List ℕ} (k : ℕ) {v : Wrote} {o' : List ℕ} (put : Put s.wrote (num_b k) o v o') where
+  plain_go : (x : Ty Spot) → ((u : Analyzer Spot) → analyze_type x u ≡ (ok x, u)) → ty_b x ≡ num_b k → Tries t (ret x) analyze_type ty_b s o l w (with_wrote s v) none o' l w
   unfolding ret
-  plain_go x p e = tries λ j g i. let z = (v.does j g i).to k (here s) refl in leads_got x (plain_tried x k g z.cur p e z.is)
+  plain_go x p e = tries λ j g i. leads_got x (plain_tried x k g refl p e (wrote i put (record { is = refl })))
 
-  nameless_go : k ≡ 23 → Tries t (ty_of a b k (get_or ty_kinds k k_plain)) analyze_type ty_b s o l w r none o' l' w'
+  nameless_go : k ≡ 23 → Tries t (ty_of a b k (get_or ty_kinds k k_plain)) analyze_type ty_b s o l w (with_wrote s v) none o' l w
   unfolding ty_kinds ty_of ty_b analyze_type S.ret
   nameless_go e = as_kind a b k k_nameless (rw e) (plain_go nameless (λ u. refl) (rw e))
 
-  simple_go : get_or ty_kinds k k_plain ≡ k_plain → Tries t (ty_of a b k (get_or ty_kinds k k_plain)) analyze_type ty_b s o l w r none o' l' w'
+  simple_go : get_or ty_kinds k k_plain ≡ k_plain → Tries t (ty_of a b k (get_or ty_kinds k k_plain)) analyze_type ty_b s o l w (with_wrote s v) none o' l w
   unfolding ty_of ty_b analyze_type S.ret
   simple_go e = as_kind a b k k_plain e (plain_go (plain k) (λ u. refl) refl)
 
-  -- the kinds 0 to 13
-  pub type_simple : k < 14 → Tries t (ty_of a b k (get_or ty_kinds k k_plain)) analyze_type ty_b s o l w r none o' l' w'
+  pub type_alone : (k < 14) ⊎ ((k ≡ 23) ⊎ (26 ≤ k)) → Tries t (ty_of a b k (get_or ty_kinds k k_plain)) analyze_type ty_b s o l w (with_wrote s v) none o' l w
   unfolding ty_kinds
-  type_simple h = simple_go (run ty_kinds 0 14 k_plain k_plain refl k (omega arith) (omega arith))
-
-  -- kind 23
-  pub type_nameless : (k ≡ 20 → ⊥) → (k ≡ 21 → ⊥) → (k ≡ 22 → ⊥) → ((20 ≤ k) × (k < 24)) ⊎ (26 ≤ k) → Tries t (ty_of a b k (get_or ty_kinds k k_plain)) analyze_type ty_b s o l w r none o' l' w'
-  unfolding ty_kinds
-  type_nameless n₁ n₂ n₃ (inl h) = let lo = h.0 in let hi = h.1 in nameless_go (omega arith)
-  type_nameless n₁ n₂ n₃ (inr h) = simple_go (get_d_past ty_kinds k k_plain h)
+  type_alone (inl h) = simple_go (run ty_kinds 0 14 k_plain k_plain refl k (omega arith) (omega arith))
+  type_alone (inr (inl e)) = nameless_go e
+  type_alone (inr (inr h)) = simple_go (get_or_past ty_kinds k k_plain h)
 
 -- AN ELEMENT AND ITS LENGTH, A WORD AND ITS SIZE
 
@@ -210,11 +208,11 @@ bad_element : (e : Ty Spot → List ℕ) (xs : List ℕ) {f : Fault} {y : Maybe 
 unfolding ok_b
 bad_element e xs (bad q) = sym (append-nil xs)
 
-module _ (k : ℕ) {t : List ℕ} {m : Reader (Ty Spot)} {s : Walk} {o l w : List ℕ} {v : Wrote} {o₁ : List ℕ} {s₁ : Walk} (put : Put s.wrote (num_b k) o v o₁) (wr : Writes s v s₁) {r : Walk} {o₂ l₂ w₂ : List ℕ} where
-  pub element_fine : Tries t m analyze_type ty_b s₁ o₁ l w r none o₂ l₂ w₂ → Tries t m analyze_type (element_b k) s o l w r none o₂ l₂ w₂
-  element_fine y = tries λ j a i. leads_at (here_wrote wr) (record {
+module _ (k : ℕ) {t : List ℕ} {m : Reader (Ty Spot)} {s : Walk} {o l w : List ℕ} {v : Wrote} {o₁ : List ℕ} (put : Put s.wrote (num_b k) o v o₁) {r : Walk} {o₂ l₂ w₂ : List ℕ} where
+  pub element_fine : Tries t m analyze_type ty_b (with_wrote s v) o₁ l w r none o₂ l₂ w₂ → Tries t m analyze_type (element_b k) s o l w r none o₂ l₂ w₂
+  element_fine y = tries λ j a i. record {
     to = λ x d h.
-        let z = (y.does j (say (num_b k) a) (wrote i put wr)).to x d h in
+        let z = (y.does j (say (num_b k) a) (wrote i put (record { is = refl }))).to x d h in
         record {
           did = record {
             cur = z.did.cur;
@@ -222,21 +220,21 @@ module _ (k : ℕ) {t : List ℕ} {m : Reader (Ty Spot)} {s : Walk} {o l w : Lis
           };
           told = λ g. z.told (record { few = g.few; fit = g.fit });
         };
-  })
+  }
 
-  pub element_bad : {f : Fault} {r₁ : Walk} → Tries t m analyze_type ty_b s₁ o₁ l w r (some f) o₂ l₂ w₂ → Writes r s.wrote r₁ → Tries t m analyze_type (element_b k) s o l w r₁ (some f) o₂ l₂ w₂
-  element_bad y back = tries λ j a i. leads_at (here_wrote wr) (record {
+  pub element_bad : {f : Fault} → Tries t m analyze_type ty_b (with_wrote s v) o₁ l w r (some f) o₂ l₂ w₂ → Tries t m analyze_type (element_b k) s o l w (with_wrote r s.wrote) (some f) o₂ l₂ w₂
+  element_bad y = tries λ j a i. record {
     to = λ x d h.
-        let z = (y.does j (say (num_b k) a) (wrote i put wr)).to x d h in
+        let z = (y.does j (say (num_b k) a) (wrote i put (record { is = refl }))).to x d h in
         record {
           did = record {
-            cur = z.did.cur ∙ sym (here_wrote back);
+            cur = z.did.cur;
             is = is_same (λ g. ap (λ (xs : List ℕ). record { out = xs; st = (analyze_type x a.st).1; rest = a.rest }) (bad_element (element_b k) a.out (z.told (record { few = g.few; fit = g.fit }))))
-                (rewound i (num_b k ++ ok_b ty_b (analyze_type x a.st).0) (omega (arith, type_ids x a.st)) (out_is z.did.is (append_assoc a.out (num_b k) _)) back);
+                (rewound i (num_b k ++ ok_b ty_b (analyze_type x a.st).0) (omega (arith, type_ids x a.st)) (out_is z.did.is (append_assoc a.out (num_b k) _)) (record { is = refl }));
           };
           told = λ g. z.told (record { few = g.few; fit = g.fit });
         };
-  })
+  }
 
 -- AN ELEMENT AND ITS NAMED LENGTH
 
@@ -292,9 +290,9 @@ module _ (m b : Reader (Ty Spot)) {t : List ℕ} {s : Walk} {o l w : List ℕ} {
       })
 
   -- the length is refused: the element is dropped
-  pub named_late : {f : Fault} {r₁ : Walk} → Tries t m analyze_type (element_b 15) s o l w s₁ none o₁ l₁ w₁ → Tries t ident use_constant ident_b s₁ o₁ l₁ w₁ r (some f) o₂ l₂ w₂ → Writes r s.wrote r₁ → Tries t (ty_of m b 15 k_named_length) analyze_type ty_b s o l w r₁ (some f) o₂ l₂ w₂
+  pub named_late : {f : Fault} → Tries t m analyze_type (element_b 15) s o l w s₁ none o₁ l₁ w₁ → Tries t ident use_constant ident_b s₁ o₁ l₁ w₁ r (some f) o₂ l₂ w₂ → Tries t (ty_of m b 15 k_named_length) analyze_type ty_b s o l w (with_wrote r s.wrote) (some f) o₂ l₂ w₂
   unfolding ty_of
-  named_late {f} k v back = tries λ j a i. leads_tried _ k j i λ x _ i₁ first. leads_tried _ v j i₁ λ n _ i₂ second.
+  named_late {f} k v = tries λ j a i. leads_tried _ k j i λ x _ i₁ first. leads_tried _ v j i₁ λ n _ i₂ second.
       let ids = named_ids x n a.st in
       let whole = type_ids (array_with_named_length x n) a.st in
       let c = use_constant n (analyze_type x a.st).1 in
@@ -303,9 +301,9 @@ module _ (m b : Reader (Ty Spot)) {t : List ℕ} {s : Walk} {o l w : List ℕ} {
       (y.0, y.1, second (record { few = omega (arith, few, ids.1); fit = fit })) in
       leads_got (array_with_named_length x n) (record {
         did = record {
-          cur = sym (here_wrote back);
+          cur = refl;
           is = is_same (λ z. let y = known z.few z.fit in ap (λ (xs : List ℕ). record { out = xs; st = c.1; rest = a.rest }) (dropped_bytes a.out y.0 y.2) ∙ ap (afterwards ty_b a) (sym (named_ok x n a.st y.1)))
-              (rewound i (ok_b (element_b 15) (analyze_type x a.st).0 ++ ok_b ident_b c.0) (omega (arith, ids.1, whole)) (out_is i₂ (append_assoc a.out _ _)) back);
+              (rewound i (ok_b (element_b 15) (analyze_type x a.st).0 ++ ok_b ident_b c.0) (omega (arith, ids.1, whole)) (out_is i₂ (append_assoc a.out _ _)) (record { is = refl }));
         };
         told = λ z. let y = known z.few z.fit in subst (λ (u : Maybe Spot (Ty Spot) × Analyzer Spot). Answers (some f) u.0) (sym (named_ok x n a.st y.1)) (answers_by (array_with_named_length y.0) y.2);
       })

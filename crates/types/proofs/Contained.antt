@@ -4,6 +4,8 @@ use mathlib.Core.List.{List, ◌++◌, append_assoc}
 use mathlib.Core.Option.{Option, none, some}
 use Prim.Native.Nat.{ℕ, ◌<◌}
 use native.Mathlib.Omega.{arith}
+use Rattle.fields.specs.declared.refusal.Refusal.{Refusal}
+use Rattle.std.specs.Prelude.{Result, Ok, Err}
 use Rattle.penne.specs.Reader.{got, Reader, below}
 use Rattle.penne.specs.Tree.{Spot, Ident, Maybe, ok, err, Ty}
 use Rattle.penne.specs.Read.{maybe, read_poison}
@@ -11,8 +13,6 @@ use Rattle.penne.specs.Write.{num_b, ty_b, maybe_b}
 use Rattle.penne.specs.State as S
 use Rattle.penne.specs.Scopes.{Analyzer, on_containment, with_containment}
 use Rattle.penne.specs.Variables.{analyze_type, analyze_maybe_type, found_maybe}
-use Rattle.fields.specs.declared.number.Read.{Read}
-use Rattle.fields.specs.declared.number.Read.TheVariants.{Number, Refused}
 use Rattle.fields.specs.Answers.{cursor, counts_of, Gives}
 use Rattle.answer.specs.declared.wrote.Wrote.{Wrote}
 use Rattle.answer.specs.Out.{Put}
@@ -21,13 +21,11 @@ use Rattle.walk.specs.declared.state.Script.{Script}
 use Rattle.walk.specs.declared.state.Walk.{Walk}
 use Rattle.walk.specs.declared.fault.Fault.{Fault}
 use Rattle.walk.specs.declared.edges.Holder.{Holder}
-use Rattle.walk.specs.declared.edges.Edge.{Edge}
-use Rattle.walk.specs.declared.edges.Edge.TheVariants as E
-use Rattle.walk.specs.Walking.{Writes, Moves, here, Lower, Tables, Ground, Good, Stands, Is, onward, silently, say, say_poison, Walks, fault_b, ok_b, Answers, Tries}
+use Rattle.walk.specs.Walking.{moved_to, with_wrote, here, Lower, Tables, Ground, Good, Stands, Is, onward, silently, say, say_poison, Walks, fault_b, ok_b, Answers, Tries}
 use Rattle.walk.specs.Walking as W
 use Rattle.walk.specs.Calls.{Member, FoundIn, Edged, fine, bad}
-use Rattle.walk.proofs.Leading.{leads_call, leads_tried, leads_end, told_fine, told_bad, leads_at}
-use Rattle.walk.proofs.Writing.{here_moved, here_after, here_wrote, moved, wrote, out_is, instead}
+use Rattle.walk.proofs.Leading.{leads_call, leads_tried, leads_end, told_fine, told_bad}
+use Rattle.walk.proofs.Writing.{moved, wrote, out_is, instead}
 use Rattle.walk.proofs.Choosing.{leads_unmaybe, leads_ok, leads_err}
 use Rattle.walk.proofs.Containing.{tables_changed}
 use Rattle.types.specs.Typing.{analyze_contained, Contains}
@@ -51,44 +49,44 @@ module _ (c : Ident Spot) (i : Option (Ident Spot)) (x : Ty Spot) (s : Analyzer 
   contained_ids = ap (λ (v : Maybe Spot (Ty Spot) × Analyzer Spot). v.1.resolution_id) (contained_by refl) ∙ found_ids c i _ _ ∙ type_ids x s
 
 -- its edges by what the code says of them
-edge_fine : {x : Ty Spot} {r : Edge} {y : Maybe Spot (Ty Spot)} → Edged x r y → r ≡ E.Fine → y ≡ ok x
+edge_fine : {x : Ty Spot} {r : Result (Unit {0}) Fault} {y : Maybe Spot (Ty Spot)} → Edged x r y → r ≡ Ok tt → y ≡ ok x
 edge_fine fine e = refl
 edge_fine (bad q) e = absurd (let z : ◌≡◌ {A = ℕ} 0 1 = cc in omega arith)
 
-edge_bad : {x : Ty Spot} {r : Edge} {y : Maybe Spot (Ty Spot)} {f : Fault} → Edged x r y → r ≡ E.Bad f → Answers (some f) y
+edge_bad : {x : Ty Spot} {r : Result (Unit {0}) Fault} {y : Maybe Spot (Ty Spot)} {f : Fault} → Edged x r y → r ≡ Err f → Answers (some f) y
 edge_bad fine e = absurd (let z : ◌≡◌ {A = ℕ} 0 1 = cc in omega arith)
 edge_bad {f = f} (bad {f = g} q) e = let d : g ≡ f = cc in W.bad (ap fault_b (sym d) ∙ q)
 
 -- THE WALK
 
-module _ (m : Reader (Ty Spot)) {t : List ℕ} {h : Holder} {s : Walk} {o l w : List ℕ} {q : Read} (g : Gives (below 2) t s.at q) where
-  pub contained_unread : {i p : ℕ} {r : Walk} {o' l' w' : List ℕ} → q ≡ Refused i p → Contains t (maybe m) h s o l w r o' l' w'
+module _ (m : Reader (Ty Spot)) {t : List ℕ} {h : Holder} {s : Walk} {o l w : List ℕ} {q : Result (ℕ × ℕ) Refusal} (g : Gives (below 2) t s.at q) where
+  pub contained_unread : {x : Refusal} {r : Walk} {o' l' w' : List ℕ} → q ≡ Err x → Contains t (maybe m) h s o l w r o' l' w'
   contained_unread e = record { does = λ j c i k a low row is. leads_unmaybe g m e }
 
-  module _ {v n : ℕ} (e : q ≡ Number v n) where
-    pub contained_poison : {s₁ r : Walk} {o' l' w' : List ℕ} → (v ≡ 0 → ⊥) → Moves s n s₁ → Walks t read_poison (say_poison 1) s₁ o l w r o' l' w' → Contains t (maybe m) h s o l w r o' l' w'
+  module _ {v n : ℕ} (e : q ≡ Ok (v, n)) where
+    pub contained_poison : {r : Walk} {o' l' w' : List ℕ} → (v ≡ 0 → ⊥) → Walks t read_poison (say_poison 1) (moved_to s n) o l w r o' l' w' → Contains t (maybe m) h s o l w r o' l' w'
     unfolding analyze_contained analyze_maybe_type found_maybe maybe_b S.◌>>=◌ S.ret
-    contained_poison z mv k = record { does = λ j c i _ a low row is. leads_err g m e z (leads_at (here_moved mv) (leads_call _ k j (moved is mv) λ x _ i₁. leads_end (err x) refl i₁ λ _. refl)) }
+    contained_poison z k = record { does = λ j c i _ a low row is. leads_err g m e z (leads_call _ k j (moved is (record { is = refl })) λ x _ i₁. leads_end (err x) refl i₁ λ _. refl) }
 
-    module _ (z : v ≡ 0) {b : Wrote} {o₁ : List ℕ} {s₁ s₂ r : Walk} {o₂ l₂ w₂ : List ℕ} (put : Put s.wrote (num_b 0) o b o₁) (wr : Writes s b s₁) (mv : Moves s₁ n s₂) where
+    module _ (z : v ≡ 0) {b : Wrote} {o₁ : List ℕ} {r : Walk} {o₂ l₂ w₂ : List ℕ} (put : Put s.wrote (num_b 0) o b o₁) where
       -- the type is refused: no edge
-      pub contained_bad : {f : Fault} {c : Wrote} {o₃ : List ℕ} {r₁ : Walk} → Tries t m analyze_type ty_b s₂ o₁ l w r (some f) o₂ l₂ w₂ → Put s.wrote (num_b 1 ++ fault_b f) o₂ c o₃ → Writes r c r₁ → Contains t (maybe m) h s o l w r₁ o₃ l₂ w₂
+      pub contained_bad : {f : Fault} {c : Wrote} {o₃ : List ℕ} → Tries t m analyze_type ty_b (moved_to (with_wrote s b) n) o₁ l w r (some f) o₂ l₂ w₂ → Put s.wrote (num_b 1 ++ fault_b f) o₂ c o₃ → Contains t (maybe m) h s o l w (with_wrote r c) o₃ l₂ w₂
       unfolding found_maybe maybe_b S.ret
-      contained_bad k err_put back = record {
-        does = λ j c i _ a low row is. leads_ok g m e z (leads_at (here_after wr mv) (leads_tried _ k j (moved (wrote is put wr) mv) λ x _ i₁ told.
-            leads_end (ok x) (sym (here_wrote back)) (instead is (num_b 0 ++ ok_b ty_b (analyze_type x a.st).0) (omega (arith, type_ids x a.st)) (out_is i₁ (append_assoc a.out (num_b 0) _)) err_put back)
+      contained_bad k err_put = record {
+        does = λ j c i _ a low row is. leads_ok g m e z (leads_tried _ k j (moved (wrote is put (record { is = refl })) (record { is = refl })) λ x _ i₁ told.
+            leads_end (ok x) refl (instead is (num_b 0 ++ ok_b ty_b (analyze_type x a.st).0) (omega (arith, type_ids x a.st)) (out_is i₁ (append_assoc a.out (num_b 0) _)) err_put (record { is = refl }))
             λ y.
             let ids = contained_ids c i x a.st in
             let same = type_ids x a.st in
             let u = told_bad (told (record { few = omega (arith, y.few, ids, same); fit = y.fit })) refl in
             ap (λ (xs : List ℕ). record { out = a.out ++ (num_b 1 ++ xs); st = (analyze_type x a.st).1; rest = a.rest }) u.2 ∙
-            ap (λ (d : Maybe Spot (Ty Spot) × Analyzer Spot). record { out = a.out ++ maybe_b ty_b d.0; st = d.1; rest = a.rest }) (sym (contained_by c i x a.st u.1))));
+            ap (λ (d : Maybe Spot (Ty Spot) × Analyzer Spot). record { out = a.out ++ maybe_b ty_b d.0; st = d.1; rest = a.rest }) (sym (contained_by c i x a.st u.1)));
       }
 
       -- the type is fine: found_container
-      module _ (k : Tries t m analyze_type ty_b s₂ o₁ l w r none o₂ l₂ w₂) {edge : Edge} {w₃ : List ℕ} (found : FoundIn t m r.script h n w₂ edge w₃) where
+      module _ (k : Tries t m analyze_type ty_b (moved_to (with_wrote s b) n) o₁ l w r none o₂ l₂ w₂) {edge : Result (Unit {0}) Fault} {w₃ : List ℕ} (found : FoundIn t m r.script h n w₂ edge w₃) where
         -- what is known of it
-        held : (c : Ident Spot) (i : Option (Ident Spot)) → Member h i → (a : Ground) → Stands s o l w a → h.row < s.script.containers → (at a.st.containment.containers h.row).identifier ≡ c → (x : Ty Spot) → m t (here s₂) ≡ got x (here r)
+        held : (c : Ident Spot) (i : Option (Ident Spot)) → Member h i → (a : Ground) → Stands s o l w a → h.row < s.script.containers → (at a.st.containment.containers h.row).identifier ≡ c → (x : Ty Spot) → m t (cursor n s.script.names (counts_of s.counts)) ≡ got x (here r)
             → (y : Ty Spot) → (analyze_type x a.st).0 ≡ ok y → {xs : List ℕ} → Stands r o₂ l₂ w₂ (record { out = xs; st = (analyze_type x a.st).1; rest = a.rest })
             → ((analyze_contained c i (ok x) a.st).1.prunings ≡ (analyze_type x a.st).1.prunings) × Tables r.tables r.script r.counts w₃ (analyze_contained c i (ok x) a.st).1 × Lower w₂ w₃ × Edged y edge (analyze_contained c i (ok x) a.st).0
         unfolding found_maybe on_containment with_containment
@@ -96,7 +94,7 @@ module _ (m : Reader (Ty Spot)) {t : List ℕ} {h : Holder} {s : Walk} {o l w : 
             let script : s.script ≡ r.script = st.script ∙ sym after.script in
             let count = st.tables.containers.counted in
             let kept = (rows_type x a.st).same h.row (omega arith) in
-            let read' : m t (cursor n r.script.names (counts_of s.counts)) ≡ got x (here r) = ap (λ (p : Script). m t (cursor n p.names (counts_of s.counts))) (sym script) ∙ ap (m t) (sym (here_after wr mv)) ∙ read in
+            let read' : m t (cursor n r.script.names (counts_of s.counts)) ≡ got x (here r) = ap (λ (p : Script). m t (cursor n p.names (counts_of s.counts))) (sym script) ∙ read in
             let pass : analyze_type x a.st ≡ (ok y, (analyze_type x a.st).1) = ap (λ (v : Maybe Spot (Ty Spot)). (v, (analyze_type x a.st).1)) fine' in
             let all = found.does after.tables (subst (λ (p : Script). h.row < p.containers) script low) member c (kept ∙ row) (counts_of s.counts) (here r) x y a.st read' pass in
             let same = sym (contained_by c i x a.st fine') in (
@@ -107,7 +105,7 @@ module _ (m : Reader (Ty Spot)) {t : List ℕ} {h : Holder} {s : Walk} {o l w : 
             )
 
         module _ (c : Ident Spot) (i : Option (Ident Spot)) (member : Member h i) (a : Ground) (is : Is s o l w a) (low : Good a → h.row < s.script.containers) (row : Good a → (at a.st.containment.containers h.row).identifier ≡ c)
-            (x : Ty Spot) (read : m t (here s₂) ≡ got x (here r)) (i₁ : Is r o₂ l₂ w₂ (onward analyze_type (ok_b ty_b) x (say (num_b 0) a))) (told : Good (silently analyze_type x (say (num_b 0) a)) → Answers none (analyze_type x a.st).0) where
+            (x : Ty Spot) (read : m t (cursor n s.script.names (counts_of s.counts)) ≡ got x (here r)) (i₁ : Is r o₂ l₂ w₂ (onward analyze_type (ok_b ty_b) x (say (num_b 0) a))) (told : Good (silently analyze_type x (say (num_b 0) a)) → Answers none (analyze_type x a.st).0) where
           known : Good a → (y : Ty Spot) × ((analyze_type x a.st).0 ≡ ok y)
               × ((analyze_contained c i (ok x) a.st).1.prunings ≡ (analyze_type x a.st).1.prunings) × Tables r.tables r.script r.counts w₃ (analyze_contained c i (ok x) a.st).1 × Lower w₂ w₃ × Edged y edge (analyze_contained c i (ok x) a.st).0
           known z =
@@ -127,21 +125,21 @@ module _ (m : Reader (Ty Spot)) {t : List ℕ} {h : Holder} {s : Walk} {o l w : 
               tables_changed i₁ (analyze_contained c i (ok x) a.st).1 (λ z. record { few = omega (arith, z.few, ids, same); fit = z.fit })
               (λ z _. let v = known (record { few = omega (arith, z.few, same); fit = z.fit }) in (v.2, v.3, v.4))
 
-        pub contained_fine : edge ≡ E.Fine → Contains t (maybe m) h s o l w r o₂ l₂ w₃
+        pub contained_fine : edge ≡ Ok tt → Contains t (maybe m) h s o l w r o₂ l₂ w₃
         contained_fine q = record {
-          does = λ j c i member a low row is. leads_ok g m e z (leads_at (here_after wr mv) (leads_tried _ k j (moved (wrote is put wr) mv) λ x read i₁ told.
+          does = λ j c i member a low row is. leads_ok g m e z (leads_tried _ k j (moved (wrote is put (record { is = refl })) (record { is = refl })) λ x read i₁ told.
               leads_end (ok x) refl (edged c i member a is low row x read i₁ told) λ y.
               let v = known c i member a is low row x read i₁ told (good_before c i member a is low row x read i₁ told y) in
               ap (λ (xs : List ℕ). record { out = xs; st = (analyze_contained c i (ok x) a.st).1; rest = a.rest })
-              (ap (λ (d : Maybe Spot (Ty Spot)). (a.out ++ num_b 0) ++ ok_b ty_b d) v.1 ∙ fine_bytes a.out {y = ok v.0} W.fine ∙ ap (λ (d : Maybe Spot (Ty Spot)). a.out ++ maybe_b ty_b d) (sym (edge_fine v.5 q)))));
+              (ap (λ (d : Maybe Spot (Ty Spot)). (a.out ++ num_b 0) ++ ok_b ty_b d) v.1 ∙ fine_bytes a.out {y = ok v.0} W.fine ∙ ap (λ (d : Maybe Spot (Ty Spot)). a.out ++ maybe_b ty_b d) (sym (edge_fine v.5 q))));
         }
 
         -- an edge is refused: so is the type
-        pub contained_late : {f : Fault} {d : Wrote} {o₃ : List ℕ} {r₁ : Walk} → edge ≡ E.Bad f → Put s.wrote (num_b 1 ++ fault_b f) o₂ d o₃ → Writes r d r₁ → Contains t (maybe m) h s o l w r₁ o₃ l₂ w₃
-        contained_late q err_put back = record {
-          does = λ j c i member a low row is. leads_ok g m e z (leads_at (here_after wr mv) (leads_tried _ k j (moved (wrote is put wr) mv) λ x read i₁ told.
-              leads_end (ok x) (sym (here_wrote back))
-              (instead is (num_b 0 ++ ok_b ty_b (analyze_type x a.st).0) (omega (arith, contained_ids c i x a.st)) (out_is (edged c i member a is low row x read i₁ told) (append_assoc a.out (num_b 0) _)) err_put back) λ y.
+        pub contained_late : {f : Fault} {d : Wrote} {o₃ : List ℕ} → edge ≡ Err f → Put s.wrote (num_b 1 ++ fault_b f) o₂ d o₃ → Contains t (maybe m) h s o l w (with_wrote r d) o₃ l₂ w₃
+        contained_late q err_put = record {
+          does = λ j c i member a low row is. leads_ok g m e z (leads_tried _ k j (moved (wrote is put (record { is = refl })) (record { is = refl })) λ x read i₁ told.
+              leads_end (ok x) refl
+              (instead is (num_b 0 ++ ok_b ty_b (analyze_type x a.st).0) (omega (arith, contained_ids c i x a.st)) (out_is (edged c i member a is low row x read i₁ told) (append_assoc a.out (num_b 0) _)) err_put (record { is = refl })) λ y.
               let v = known c i member a is low row x read i₁ told (good_before c i member a is low row x read i₁ told y) in
-              ap (λ (xs : List ℕ). record { out = a.out ++ xs; st = (analyze_contained c i (ok x) a.st).1; rest = a.rest }) (bad_bytes (edge_bad v.5 q))));
+              ap (λ (xs : List ℕ). record { out = a.out ++ xs; st = (analyze_contained c i (ok x) a.st).1; rest = a.rest }) (bad_bytes (edge_bad v.5 q)));
         }

@@ -3,31 +3,25 @@ use mathlib.Core.Path.{◌≡◌, refl, sym, ap, subst, ◌∙◌}
 use mathlib.Core.List.{List, ◌++◌, append_assoc, append-nil}
 use mathlib.Core.Option.{Option, none, some}
 use Prim.Native.Nat.{ℕ}
+use Rattle.std.specs.Prelude.{Result}
+use Rattle.fields.specs.declared.refusal.Refusal.{Refusal}
+use Rattle.std.specs.Prelude.{Ok, Err}
 use Rattle.penne.specs.Reader.{Counts, Cur, got, Reader, ◌>>=◌, ret}
 use Rattle.penne.specs.Tree.{Spot, Ident, Maybe, ok, err}
 use Rattle.penne.specs.Read.{ident}
 use Rattle.penne.specs.Write.{num_b}
 use Rattle.penne.specs.State as S
 use Rattle.penne.specs.Scopes.{Analyzer, Pass}
-use Rattle.fields.specs.declared.number.Read.{Read}
-use Rattle.fields.specs.declared.number.Read.TheVariants.{Number, Refused}
 use Rattle.fields.specs.declared.field.Identifier.{Identifier}
-use Rattle.fields.specs.declared.field.Identified.{Identified}
-use Rattle.fields.specs.declared.field.Identified.TheVariants as I
 use Rattle.fields.specs.Answers.{cursor, counts_of, number_of, ident_of, identified_of, Gives, Identifies}
 use Rattle.answer.specs.declared.wrote.Wrote.{Wrote}
 use Rattle.answer.specs.Out.{Put}
 use Rattle.walk.specs.declared.state.Walk.{Walk}
 use Rattle.walk.specs.declared.fault.Fault.{Fault}
-use Rattle.walk.specs.declared.names.Used.{Used}
-use Rattle.walk.specs.declared.names.Used.TheVariants as U
-use Rattle.walk.specs.Walking.{Moves, Writes, here, Ground, Good, Is, onward, silently, say, Did, Leads, Walks, ok_b, Answers, fine, bad, Tried, Tries, Uses}
+use Rattle.walk.specs.Walking.{moved_to, with_wrote, here, Ground, Good, Is, onward, silently, say, Did, Leads, Walks, ok_b, Answers, fine, bad, Tried, Tries, Uses}
 use Rattle.walk.proofs.Leading.{same_value, same_cur, tries, leads_bind, leads_got, leads_refused, leads_call, leads_tried, is_same}
-use Rattle.walk.proofs.Writing.{here_moved, here_after, moved, wrote}
+use Rattle.walk.proofs.Writing.{moved, wrote}
 use Rattle.walk.proofs.Using.{stepped, made_used, made_refused}
-use Rattle.types.specs.declared.Typed.{Typed}
-use Rattle.types.specs.declared.Typed.TheVariants.{Fine, Bad}
-use Rattle.types.specs.Typing.{walk_of, fault_of}
 
 -- THE PASS
 
@@ -48,15 +42,6 @@ pub answers_by : {A B : Type 0} (h : A → B) {f : Option Fault} {y : Maybe Spot
 unfolding by
 answers_by h fine = fine
 answers_by h (bad q) = bad q
-
--- what was told, by what the code answered
-pub fine_is : {t : List ℕ} {A B : Type 0} {m : Reader A} {p : A → Pass Spot (Maybe Spot B)} {e : B → List ℕ} {s : Walk} {o l w : List ℕ} {r : Typed} {o' l' w' : List ℕ} {v : Walk} → r ≡ Fine v → Tries t m p e s o l w (walk_of r) (fault_of r) o' l' w' → Tries t m p e s o l w v none o' l' w'
-unfolding walk_of fault_of
-fine_is {t} {m = m} {p} {e} {s} {o} {l} {w} {o' = o'} {l'} {w'} q k = subst (λ (v : Typed). Tries t m p e s o l w (walk_of v) (fault_of v) o' l' w') q k
-
-pub bad_is : {t : List ℕ} {A B : Type 0} {m : Reader A} {p : A → Pass Spot (Maybe Spot B)} {e : B → List ℕ} {s : Walk} {o l w : List ℕ} {r : Typed} {o' l' w' : List ℕ} {v : Walk} {f : Fault} → r ≡ Bad v f → Tries t m p e s o l w (walk_of r) (fault_of r) o' l' w' → Tries t m p e s o l w v (some f) o' l' w'
-unfolding walk_of fault_of
-bad_is {t} {m = m} {p} {e} {s} {o} {l} {w} {o' = o'} {l'} {w'} q k = subst (λ (v : Typed). Tries t m p e s o l w (walk_of v) (fault_of v) o' l' w') q k
 
 -- the ground after the answer and the state v
 abbrev pub afterwards : {B : Type 0} → (B → List ℕ) → Ground → Maybe Spot B × Analyzer Spot → Ground
@@ -135,67 +120,63 @@ pub leads_just : {A : Type 0} {t : List ℕ} {P : A → Cur → Type 0} {m : Rea
 leads_just {A} {P = P} {y = y} h k = record { to = λ x d g. let q = sym h ∙ g in subst (λ (z : A). P z d) (same_value q) (subst (λ (b : Cur). P y b) (same_cur q) k) }
 
 -- a number
-module _ {m : Reader ℕ} {t : List ℕ} {P : ℕ → Cur → Type 0} {names at : ℕ} {k : Counts} {q : Read} (g : Gives m t at q) where
-  pub leads_given : {v n : ℕ} → q ≡ Number v n → P v (cursor n names k) → Leads m t (cursor at names k) P
-  unfolding number_of
-  leads_given e h = leads_just (sym (g.is names k) ∙ ap (number_of names k) e) h
+module _ {m : Reader ℕ} {t : List ℕ} {P : ℕ → Cur → Type 0} {names at : ℕ} {k : Counts} {q : Result (ℕ × ℕ) Refusal} (g : Gives m t at q) where
+  pub leads_given : {v n : ℕ} → q ≡ Ok (v, n) → P v (cursor n names k) → Leads m t (cursor at names k) P
+  leads_given e h = leads_just (g.is names k ∙ ap (number_of names k) e) h
 
-  pub leads_ungiven : {i p : ℕ} → q ≡ Refused i p → Leads m t (cursor at names k) P
-  unfolding number_of
-  leads_ungiven e = leads_refused (sym (g.is names k) ∙ ap (number_of names k) e)
+  pub leads_ungiven : {x : Refusal} → q ≡ Err x → Leads m t (cursor at names k) P
+  leads_ungiven e = leads_refused (g.is names k ∙ ap (number_of names k) e)
 
 -- a name
-module _ {t : List ℕ} {P : Ident Spot → Cur → Type 0} {names at : ℕ} {k : Counts} {q : Identified} (g : Identifies t names at q) where
-  pub leads_name : {i : Identifier} {n : ℕ} → q ≡ I.Is i n → P (ident_of at i) (cursor n names k) → Leads ident t (cursor at names k) P
-  unfolding identified_of
-  leads_name e h = leads_just (sym (g.is k) ∙ ap (identified_of names at k) e) h
+module _ {t : List ℕ} {P : Ident Spot → Cur → Type 0} {names at : ℕ} {k : Counts} {q : Result (Identifier × ℕ) Refusal} (g : Identifies t names at q) where
+  pub leads_name : {i : Identifier} {n : ℕ} → q ≡ Ok (i, n) → P (ident_of at i) (cursor n names k) → Leads ident t (cursor at names k) P
+  leads_name e h = leads_just (g.is k ∙ ap (identified_of names at k) e) h
 
-  pub leads_unnamed : {i p : ℕ} → q ≡ I.Not i p → Leads ident t (cursor at names k) P
-  unfolding identified_of
-  leads_unnamed e = leads_refused (sym (g.is k) ∙ ap (identified_of names at k) e)
+  pub leads_unnamed : {x : Refusal} → q ≡ Err x → Leads ident t (cursor at names k) P
+  leads_unnamed e = leads_refused (g.is k ∙ ap (identified_of names at k) e)
 
 -- it is passed over
-pub passed : {s r : Walk} {n : ℕ} {o l w : List ℕ} {a : Ground} → Is s o l w a → Moves s n r → Did (cursor n s.script.names (counts_of s.counts)) a r o l w
-passed i mv = record { cur = sym (here_moved mv); is = moved i mv }
+pub passed : {s : Walk} {n : ℕ} {o l w : List ℕ} {a : Ground} → Is s o l w a → Did (cursor n s.script.names (counts_of s.counts)) a (moved_to s n) o l w
+passed i = record { cur = refl; is = moved i (record { is = refl }) }
 
 -- a number that is copied
-pub copied : {m : Reader ℕ} {t : List ℕ} {s s₁ r : Walk} {o o' l w : List ℕ} {a : Ground} {q : Read} {v n : ℕ} {b : Wrote} → Gives m t s.at q → q ≡ Number v n → Is s o l w a → Put s.wrote (num_b v) o b o' → Writes s b s₁ → Moves s₁ n r
-    → Leads m t (here s) (λ x d. Did d (say (num_b x) a) r o' l w)
-copied g e i put wr mv = leads_given g e (record { cur = sym (here_after wr mv); is = moved (wrote i put wr) mv })
+pub copied : {m : Reader ℕ} {t : List ℕ} {s : Walk} {o o' l w : List ℕ} {a : Ground} {q : Result (ℕ × ℕ) Refusal} {v n : ℕ} {b : Wrote} → Gives m t s.at q → q ≡ Ok (v, n) → Is s o l w a → Put s.wrote (num_b v) o b o'
+    → Leads m t (here s) (λ x d. Did d (say (num_b x) a) (moved_to (with_wrote s b) n) o' l w)
+copied g e i put = leads_given g e (record { cur = refl; is = moved (wrote i put (record { is = refl })) (record { is = refl }) })
 
 -- A NAME THAT IS USED
 
-module _ {p : Ident Spot → Pass Spot (Maybe Spot (Ident Spot))} (e : Ident Spot → List ℕ) {t : List ℕ} {s : Walk} {o l w : List ℕ} {q : Identified} (g : Identifies t s.script.names s.at q) where
-  pub name_unread : {i n : ℕ} {r : Walk} {f : Option Fault} {o' l' w' : List ℕ} → q ≡ I.Not i n → Tries t ident p e s o l w r f o' l' w'
+module _ {p : Ident Spot → Pass Spot (Maybe Spot (Ident Spot))} (e : Ident Spot → List ℕ) {t : List ℕ} {s : Walk} {o l w : List ℕ} {q : Result (Identifier × ℕ) Refusal} (g : Identifies t s.script.names s.at q) where
+  pub name_unread : {x : Refusal} {r : Walk} {f : Option Fault} {o' l' w' : List ℕ} → q ≡ Err x → Tries t ident p e s o l w r f o' l' w'
   name_unread z = tries λ j a i. leads_unnamed g z
 
-  module _ {i : Identifier} {n : ℕ} (h : q ≡ I.Is i n) {u : Used} {w' : List ℕ} (v : Uses p s i w u w') where
-    pub name_used : {j : Identifier} {ys : List ℕ} {b : Wrote} {o' : List ℕ} {s₁ r : Walk} → u ≡ U.As j → ys ≡ e (ident_of s.at j) → Put s.wrote ys o b o' → Writes s b s₁ → Moves s₁ n r → Tries t ident p e s o l w r none o' l w'
+  module _ {i : Identifier} {n : ℕ} (h : q ≡ Ok (i, n)) {w' : List ℕ} where
+    pub name_used : {j : Identifier} {ys : List ℕ} {b : Wrote} {o' : List ℕ} → Uses p (moved_to s n) i w (Ok j) w' → ys ≡ e (ident_of s.at j) → Put s.wrote ys o b o' → Tries t ident p e s o l w (with_wrote (moved_to s n) b) none o' l w'
     unfolding ok_b
-    name_used {j} {r = r} y bytes put wr mv = tries λ _ a i₀.
+    name_used {j} v bytes put = tries λ _ a i₀.
         let x = ident_of s.at i in
-        let k = v.does s.at o l a i₀ in
+        let k = v.does s.at o l a (moved i₀ (record { is = refl })) in
         leads_name g h (record {
           did = record {
-            cur = sym (here_after wr mv);
+            cur = refl;
             is = is_same (λ z.
-                let f = made_used (k.made (record { few = z.few; fit = z.fit })) y in
-                ap (λ (xs : List ℕ). record { out = a.out ++ xs; st = (p x a.st).1; rest = a.rest }) (bytes ∙ ap (ok_b e) (sym f))) (moved (wrote k.is put wr) mv);
+                let f = made_used (k.made (record { few = z.few; fit = z.fit })) refl in
+                ap (λ (xs : List ℕ). record { out = a.out ++ xs; st = (p x a.st).1; rest = a.rest }) (bytes ∙ ap (ok_b e) (sym f))) (wrote k.is put (record { is = refl }));
           };
-          told = λ z. subst (λ (d : Maybe Spot (Ident Spot)). Answers none d) (sym (made_used (k.made z) y)) fine;
+          told = λ z. subst (λ (d : Maybe Spot (Ident Spot)). Answers none d) (sym (made_used (k.made z) refl)) fine;
         })
 
-    pub name_refused : {f : Fault} {r : Walk} → u ≡ U.Not f → Moves s n r → Tries t ident p e s o l w r (some f) o l w'
+    pub name_refused : {f : Fault} → Uses p (moved_to s n) i w (Err f) w' → Tries t ident p e s o l w (moved_to s n) (some f) o l w'
     unfolding ok_b
-    name_refused {f} y mv = tries λ _ a i₀.
+    name_refused {f} v = tries λ _ a i₀.
         let x = ident_of s.at i in
-        let k = v.does s.at o l a i₀ in
+        let k = v.does s.at o l a (moved i₀ (record { is = refl })) in
         leads_name g h (record {
           did = record {
-            cur = sym (here_moved mv);
+            cur = refl;
             is = is_same (λ z.
-                let b = made_refused (k.made (record { few = z.few; fit = z.fit })) y in
-                ap (λ (xs : List ℕ). record { out = xs; st = (p x a.st).1; rest = a.rest }) (sym (append-nil a.out) ∙ ap (λ (d : Maybe Spot (Ident Spot)). a.out ++ ok_b e d) (sym b.1))) (moved k.is mv);
+                let b = made_refused (k.made (record { few = z.few; fit = z.fit })) refl in
+                ap (λ (xs : List ℕ). record { out = xs; st = (p x a.st).1; rest = a.rest }) (sym (append-nil a.out) ∙ ap (λ (d : Maybe Spot (Ident Spot)). a.out ++ ok_b e d) (sym b.1))) k.is;
           };
-          told = λ z. let b = made_refused (k.made z) y in subst (λ (d : Maybe Spot (Ident Spot)). Answers (some f) d) (sym b.1) (bad b.2);
+          told = λ z. let b = made_refused (k.made z) refl in subst (λ (d : Maybe Spot (Ident Spot)). Answers (some f) d) (sym b.1) (bad b.2);
         })

@@ -1,5 +1,5 @@
 -- What the functions over types promise.
-use Rattle.std.specs.Prelude.{ℕ, ◌<◌, ◌≡◌, List, ◌++◌}
+use Rattle.std.specs.Prelude.{ℕ, ◌<◌, ◌≡◌, List, ◌++◌, Result, Ok, Err}
 use Rattle.std.proofs.Math.Option.{Option, none, some}
 use Rattle.penne.specs.Reader.{Reader}
 use Rattle.penne.specs.State.{◌>>=◌}
@@ -13,17 +13,11 @@ use Rattle.walk.specs.declared.fault.Fault.{Fault}
 use Rattle.walk.specs.declared.edges.Holder.{Holder}
 use Rattle.walk.specs.Walking.{here, Ground, Good, Is, onward, say, Did, Leads, Input}
 use Rattle.walk.specs.Calls.{Member}
-use Rattle.types.specs.declared.Typed.{Typed}
-use Rattle.types.specs.declared.Typed.TheVariants.{Fine, Bad}
 
--- the walk behind a type, and its poison
-unfoldable pub walk_of : Typed → Walk
-walk_of (Fine s) = s
-walk_of (Bad s f) = s
-
-unfoldable pub fault_of : Typed → Option Fault
-fault_of (Fine s) = none
-fault_of (Bad s f) = some f
+-- what is told of a type: nothing, or its poison
+abbrev pub fault_of : {A : Type 0} → Result A Fault → Option Fault
+fault_of (Ok x) = none
+fault_of (Err f) = some f
 
 -- what follows a type's kind, as it is written: a number; a type or a name behind the kind
 abbrev pub say_number : ℕ → Ground → Ground

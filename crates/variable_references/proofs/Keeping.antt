@@ -3,6 +3,7 @@ use mathlib.Core.Path.{◌≡◌, refl, sym, ap, subst, ◌∙◌}
 use mathlib.Core.Bool.{Bool, true, false, ◌&&◌}
 use mathlib.Core.List.{List, ◌++◌}
 use mathlib.Core.Option.{none}
+use Rattle.std.specs.Prelude.{Option, Some, None, Err}
 use Prim.Native.Nat.{ℕ, ◌+◌, ◌≤◌, ◌<◌}
 use native.Mathlib.Omega.{arith}
 use lib.Dec.{leb}
@@ -14,23 +15,21 @@ use Rattle.penne.specs.Read.{decl_kinds, k_bad_decl, decl_counts, read_decl}
 use Rattle.penne.specs.Write.{place_b}
 use Rattle.penne.specs.Find.{first_named}
 use Rattle.fields.specs.declared.counts.Counts as K
-use Rattle.fields.specs.declared.counts.Counted as C
-use Rattle.fields.specs.declared.counts.Counted.TheVariants.{Are, TooMany}
-use Rattle.fields.specs.declared.counts.Passed.TheVariants as Q
-use Rattle.fields.specs.Answers.{cursor, counts_of, passed_of, Counting, Passes}
+use Rattle.fields.specs.declared.refusal.Reason.TheVariants.{TooMany}
+use Rattle.fields.specs.Answers.{cursor, counts_of, Counting, Passes}
+use Rattle.fields.proofs.Back.{forget_refused}
 use Rattle.fields.proofs.Counting.{fitted}
-use Rattle.tree.proofs.Statements as T
+use Rattle.tree.proofs.Declarations.{decl_many}
 use Rattle.answer.specs.Parts.{renumbered}
 use Rattle.containers.specs.Table.{kind_of}
 use Rattle.containers.specs.Calls.{of_kind}
 use Rattle.containers.proofs.Lists.{and_true}
 use Rattle.walk.specs.declared.state.Walk.{Walk}
 use Rattle.walk.specs.Walking.{Counted, Ground, Good, Is}
-use Rattle.walk.proofs.Leading.{walks, unend_go, leads_refused, leads_at}
+use Rattle.walk.proofs.Leading.{walks, leads_refused, leads_at}
 use Rattle.walk.proofs.Writing as W
 use Rattle.walk.proofs.Identifying.{identified_low}
 use Rattle.stages.specs.declared.heads.Start.{Start}
-use Rattle.stages.specs.declared.before.Before.TheVariants as B
 use Rattle.declaration_parts.specs.Declaring.{clear, fit_container, fit_function}
 use Rattle.stages.specs.Heads.{own}
 use Rattle.stages.specs.Before.{ContainerBefore, FunctionBefore}
@@ -48,11 +47,11 @@ record Grown (k : K.Counts) (n m : ℕ) (c : K.Counts) : Type 0 where
   pub statements : c.statements ≡ k.statements
   pub few : c.containers ≤ 128
 
-module _ {k b : K.Counts} {y : C.Counted} (g : Counting k b y) {c : K.Counts} (e : y ≡ Are c) where
+module _ {k b : K.Counts} {y : Option K.Counts} (g : Counting k b y) {c : K.Counts} (e : y ≡ Some c) where
   grown : (n m : ℕ) → counts_of b ≡ record { containers = n; functions = m; entries = 0; statements = 0 } → Grown k n m c
   unfolding plus fits
   grown n m z =
-      let f = fitted g e in
+      let f = fitted (subst (λ (u : Option K.Counts). Counting k b u) e g) in
       let is = f.1 ∙ ap (plus (counts_of k)) z in
       let b₁ = leb (k.containers + b.containers) 128 in
       let b₂ = leb (k.functions + b.functions) 256 in
@@ -87,7 +86,7 @@ module _ {s : Walk} {o l w : List ℕ} {a : Ground} (i : Is s o l w a) {c : K.Co
 -- IT IS THE FIRST OF ITS NAME
 
 module _ {s : Walk} {o l w : List ℕ} {a : Ground} (i : Is s o l w a) (h : Start) where
-  new_container : {p : ℕ} (k : Bool) → ContainerBefore (kind_of k) p s h.identifier w B.No → Good (begun_container (own h) a) → NewContainer k s.counts.containers (own h) a
+  new_container : {p : ℕ} (k : Bool) → ContainerBefore (kind_of k) p s h.identifier w None → Good (begun_container (own h) a) → NewContainer k s.counts.containers (own h) a
   unfolding begun_container counting
   new_container k f z =
       let good : Good a = record { few = z.few; fit = (and_true a.rest.fit _ z.fit).0 } in
@@ -95,7 +94,7 @@ module _ {s : Walk} {o l w : List ℕ} {a : Ground} (i : Is s o l w a) (h : Star
       let m = (i.when good).marks.containers in
       record { stands = m; new = subst (λ (r : ℕ). first_named h.identifier.name (of_kind k (take r a.st.containment.containers)) ≡ none) (sym m) (told_no (refers_container i good (own h) k f fit) refl) }
 
-  new_function : FunctionBefore s h.identifier w B.No → Good (begun_function (own h) a) → NewFunction s.counts.functions (own h) a
+  new_function : FunctionBefore s h.identifier w None → Good (begun_function (own h) a) → NewFunction s.counts.functions (own h) a
   unfolding begun_function counting
   new_function f z =
       let good : Good a = record { few = z.few; fit = (and_true a.rest.fit _ z.fit).0 } in
@@ -106,14 +105,14 @@ module _ {s : Walk} {o l w : List ℕ} {a : Ground} (i : Is s o l w a) (h : Star
 -- AT ITS PARTS
 
 -- the walk's place behind the head h, with the declaration counted
-parts_at : (h : Start) (s : Walk) (kind : ℕ) {b : K.Counts} {y : C.Counted} {c : K.Counts} {s₁ : Walk} → Counting s.counts b y → counts_of b ≡ decl_counts (get_or decl_kinds kind k_bad_decl) → y ≡ Are c → Counted s c s₁
+parts_at : (h : Start) (s : Walk) (kind : ℕ) {b : K.Counts} {y : Option K.Counts} {c : K.Counts} {s₁ : Walk} → Counting s.counts b y → counts_of b ≡ decl_counts (get_or decl_kinds kind k_bad_decl) → y ≡ Some c → Counted s c s₁
     → cursor h.parts s₁.script.names (counts_of s₁.counts) ≡ cursor h.parts s.script.names (after s kind)
-parts_at h s kind g is e co = ap (λ (u : Walk). cursor h.parts u.script.names (counts_of u.counts)) co.is ∙ ap (cursor h.parts s.script.names) ((fitted g e).1 ∙ ap (plus (counts_of s.counts)) is)
+parts_at h s kind {b} g is e co = ap (λ (u : Walk). cursor h.parts u.script.names (counts_of u.counts)) co.is ∙ ap (cursor h.parts s.script.names) ((fitted (subst (λ (u : Option K.Counts). Counting s.counts b u) e g)).1 ∙ ap (plus (counts_of s.counts)) is)
 
 low_name : {t : List ℕ} {s : Walk} {kind : ℕ} {h : Start} {c : K.Counts} {s₁ : Walk} → Counted s c s₁ → Heading t s kind h → h.identifier.name < s₁.script.names
 low_name {h = h} co hd = subst (λ (u : Walk). h.identifier.name < u.script.names) (sym co.is) (identified_low hd.begins.identifier refl).1
 
-module _ {k b : K.Counts} {y : C.Counted} (g : Counting k b y) {c : K.Counts} (e : y ≡ Are c) (kind : ℕ) (is : counts_of b ≡ decl_counts (get_or decl_kinds kind k_bad_decl)) where
+module _ {k b : K.Counts} {y : Option K.Counts} (g : Counting k b y) {c : K.Counts} (e : y ≡ Some c) (kind : ℕ) (is : counts_of b ≡ decl_counts (get_or decl_kinds kind k_bad_decl)) where
   a_container_lem : decl_counts (get_or decl_kinds kind k_bad_decl) ≡ a_container → Grown k 1 0 c
   unfolding a_container
   a_container_lem z = grown g e 1 0 (is ∙ z)
@@ -124,12 +123,11 @@ module _ {k b : K.Counts} {y : C.Counted} (g : Counting k b y) {c : K.Counts} (e
 
 -- THE CODE DOES SO
 
-module _ {t : List ℕ} {s : Walk} {kind : ℕ} {h : Start} {b : K.Counts} {y : C.Counted} (g : Counting s.counts b y) (is : counts_of b ≡ decl_counts (get_or decl_kinds kind k_bad_decl)) {o l w : List ℕ} {r : Walk} {o' l' w' : List ℕ} where
-  pub kept_full : y ≡ TooMany → Keeps t kind h s o l w r o' l' w'
-  unfolding passed_of
-  kept_full e = record { does = λ hd bf. walks λ inp a i. let z : Passes read_decl t s.script.names s.counts s.at (Q.Refused 8 s.at) = T.decl_many hd.kinds refl g is e in leads_refused (unend_go _ z.is) }
+module _ {t : List ℕ} {s : Walk} {kind : ℕ} {h : Start} {b : K.Counts} {y : Option K.Counts} (g : Counting s.counts b y) (is : counts_of b ≡ decl_counts (get_or decl_kinds kind k_bad_decl)) {o l w : List ℕ} {r : Walk} {o' l' w' : List ℕ} where
+  pub kept_full : y ≡ None → Keeps t kind h s o l w r o' l' w'
+  kept_full e = record { does = λ hd bf. walks λ inp a i. let z : Passes read_decl t s.script.names s.counts s.at (Err (record { reason = TooMany; place = s.at })) = decl_many hd.kinds (subst (λ (u : Option K.Counts). Counting s.counts b u) e g) is in leads_refused (forget_refused _ _ _ z.is) }
 
-  module _ {c : K.Counts} (e : y ≡ Are c) {s₁ : Walk} (co : Counted s c s₁) where
+  module _ {c : K.Counts} (e : y ≡ Some c) {s₁ : Walk} (co : Counted s c s₁) where
     pub kept_constant : kind ≡ 0 → ((p q : Spot) → s.counts.containers < 128 → renumbered t h.places h.from ≡ place_b p ++ place_b q → Arm (NewContainer false s.counts.containers (own h)) (begun_container (own h)) t (constant_parts h.flags p q (own h)) h.parts s₁ o l w r o' l' w')
         → Keeps t kind h s o l w r o' l' w'
     unfolding decl_counts decl_kinds kind_of

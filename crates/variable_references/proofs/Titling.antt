@@ -5,6 +5,8 @@ use mathlib.Core.List.{List, ◌++◌}
 use Prim.Native.Nat.{ℕ, ◌+◌}
 use native.Mathlib.Omega.{arith}
 use lib.ListN.{get_or}
+use Rattle.fields.specs.declared.refusal.Refusal.{Refusal}
+use Rattle.std.specs.Prelude.{Option, None, Result, Ok, Err}
 use Rattle.penne.specs.Reader.{Counts, Cur, below, plus, nothing, counted}
 use Rattle.penne.specs.Tree.{Spot, Poison, Decl, import, bad_decl}
 use Rattle.penne.specs.Read.{decl_of, decl_kinds, k_bad_decl, decl_counts, decl_head, read_decl, read_import, read_poison}
@@ -12,21 +14,19 @@ use Rattle.penne.specs.Write.{decl_b}
 use Rattle.penne.specs.State as S
 use Rattle.penne.specs.Variables.{analyze_decl}
 use Rattle.penne.proofs.Booleans.{and-true}
-use Rattle.fields.specs.declared.number.Read.{Read}
-use Rattle.fields.specs.declared.number.Read.TheVariants.{Number, Refused}
-use Rattle.fields.specs.declared.counts.Passed.TheVariants as Q
-use Rattle.fields.specs.Answers.{cursor, counts_of, passed_of, passed_by, Gives, Passes}
+use Rattle.fields.specs.Answers.{cursor, counts_of, Gives, Passes}
 use Rattle.tree.proofs.Statements as T
+use Rattle.tree.proofs.Declarations.{decl_unread}
+use Rattle.fields.proofs.Back.{forget_refused}
 use Rattle.label_references.specs.Marked.{marked_decl}
+use Rattle.walk.specs.declared.fault.Fault.{Fault}
 use Rattle.walk.specs.declared.state.Walk.{Walk}
 use Rattle.walk.specs.Walking.{here, Moves, Rest, Ground, say, say_poison, Leads, Walks}
-use Rattle.walk.proofs.Leading.{walks, unend_go, leads_refused, leads_bind, leads_call, leads_got, leads_end, leads_counting, is_same, leads_at}
+use Rattle.walk.proofs.Leading.{walks, leads_refused, leads_bind, leads_call, leads_got, leads_end, leads_counting, is_same, leads_at}
 use Rattle.walk.proofs.Writing.{here_moved, moved}
 use Rattle.stages.specs.declared.heads.Start.{Start}
 use Rattle.stages.specs.declared.heads.Head.{Head}
 use Rattle.stages.specs.declared.heads.Head.TheVariants as H
-use Rattle.stages.specs.declared.before.Before.{Before}
-use Rattle.stages.specs.declared.before.Before.TheVariants as B
 use Rattle.stages.specs.Heads.{rows_of}
 use Rattle.declaration_parts.specs.Declaring.{predeclared_by, fit_decl, behind, decl_walk}
 use Rattle.stages.specs.Heads.{Heads}
@@ -37,8 +37,8 @@ use Rattle.declaration_parts.proofs.Arms.{below_low, after}
 
 -- THE FIRST OF ITS NAME
 
-pub first_kept : {t : List ℕ} {s : Walk} {kind : ℕ} {h : Start} {b : Before} {o l w : List ℕ} {r : Walk} {o' l' w' : List ℕ} → DeclaredBefore kind s h.identifier w b → b ≡ B.No → Keeps t kind h s o l w r o' l' w' → Heading t s kind h → Walks t read_decl decl_walk s o l w r o' l' w'
-first_kept {s = s} {kind} {h} {w = w} d e k hd = k.does hd (subst (λ (x : Before). DeclaredBefore kind s h.identifier w x) e d)
+pub first_kept : {t : List ℕ} {s : Walk} {kind : ℕ} {h : Start} {b : Option Fault} {o l w : List ℕ} {r : Walk} {o' l' w' : List ℕ} → DeclaredBefore kind s h.identifier w b → b ≡ None → Keeps t kind h s o l w r o' l' w' → Heading t s kind h → Walks t read_decl decl_walk s o l w r o' l' w'
+first_kept {s = s} {kind} {h} {w = w} d e k hd = k.does hd (subst (λ (x : Option Fault). DeclaredBefore kind s h.identifier w x) e d)
 
 -- NEITHER COUNTS AS ANYTHING
 
@@ -73,18 +73,17 @@ plus-nothing k =
 
 -- BY ITS KIND
 
-module _ {t : List ℕ} (s : Walk) {m₁ : Read} (g : Gives (below 6) t s.at m₁) where
-  pub titled_unread : {i p : ℕ} {o l w : List ℕ} {r : Walk} {o' l' w' : List ℕ} → m₁ ≡ Refused i p → Walks t read_decl decl_walk s o l w r o' l' w'
-  unfolding passed_of
-  titled_unread {i} {p} e = walks λ inp a k. let z : Passes read_decl t s.script.names s.counts s.at (Q.Refused i p) = T.decl_unread g e (sym (ap (passed_by s.counts) e)) in leads_refused (unend_go _ z.is)
+module _ {t : List ℕ} (s : Walk) {m₁ : Result (ℕ × ℕ) Refusal} (g : Gives (below 6) t s.at m₁) where
+  pub titled_unread : {x : Refusal} {o l w : List ℕ} {r : Walk} {o' l' w' : List ℕ} → m₁ ≡ Err x → Walks t read_decl decl_walk s o l w r o' l' w'
+  titled_unread {x} e = walks λ inp a k. let z : Passes read_decl t s.script.names s.counts s.at (Err x) = decl_unread (subst (λ (u : Result (ℕ × ℕ) Refusal). Gives (below 6) t s.at u) e g) in leads_refused (forget_refused _ _ _ z.is)
 
-  module _ {kind n : ℕ} (e : m₁ ≡ Number kind n) where
-    here_gives : Gives (below 6) t s.at (Number kind n)
-    here_gives = subst (λ (u : Read). Gives (below 6) t s.at u) e g
+  module _ {kind n : ℕ} (e : m₁ ≡ Ok (kind, n)) where
+    here_gives : Gives (below 6) t s.at (Ok (kind, n))
+    here_gives = subst (λ (u : Result (ℕ × ℕ) Refusal). Gives (below 6) t s.at u) e g
 
     leads_title : {P : Decl Spot → Cur → Type 0} → Leads (decl_of 63 (get_or decl_kinds kind k_bad_decl)) t (cursor n s.script.names (after s kind)) P → Leads read_decl t (here s) P
     unfolding read_decl decl_head counted
-    leads_title k = leads_counting decl_counts decl_head (decl_of 63) (T.kind_value _ 6 g (counts_of s.counts) e) λ _. k
+    leads_title k = leads_counting decl_counts decl_head (decl_of 63) (T.kind_value _ 6 here_gives (counts_of s.counts)) λ _. k
 
     -- behind the kind, with nothing counted
     leads_behind : {P : Decl Spot → Cur → Type 0} {s₁ : Walk} (j : ℕ) → Moves s n s₁ → kind ≡ j → decl_counts (get_or decl_kinds j k_bad_decl) ≡ nothing → Leads (decl_of 63 (get_or decl_kinds j k_bad_decl)) t (here s₁) P → Leads read_decl t (here s) P
@@ -92,12 +91,12 @@ module _ {t : List ℕ} (s : Walk) {m₁ : Read} (g : Gives (below 6) t s.at m�
         let none : counts_of s.counts ≡ after s kind = sym (ap (λ (u : ℕ). after s u) z ∙ ap (plus (counts_of s.counts)) q ∙ plus-nothing (counts_of s.counts)) in
         leads_title (subst (λ (u : ℕ). Leads (decl_of 63 (get_or decl_kinds u k_bad_decl)) t (cursor n s.script.names (after s kind)) P) (sym z) (leads_at (here_moved mv ∙ ap (cursor n s.script.names) none) k))
 
-    module _ {x : Head} (hs : Heads t s.script.names n kind x) where
+    pub titled_not : {x : Result Head Refusal} {f : Refusal} {o l w : List ℕ} {r : Walk} {o' l' w' : List ℕ} → Heads t s.script.names n kind x → x ≡ Err f → Walks t read_decl decl_walk s o l w r o' l' w'
+    titled_not hs q = walks λ inp a i. leads_title (record { to = λ y d z. absurd ((told_unread hs q (below_low here_gives) (after s kind)).to y d z) })
+
+    module _ {x : Head} (hs : Heads t s.script.names n kind (Ok x)) where
       pub titled_named : {h : Start} → x ≡ H.Named h → Heading t s kind h
       titled_named q = record { at = n; kinds = here_gives; begins = told_named hs q }
-
-      pub titled_not : {o l w : List ℕ} {r : Walk} {o' l' w' : List ℕ} → x ≡ H.Unread → Walks t read_decl decl_walk s o l w r o' l' w'
-      titled_not q = walks λ inp a i. leads_title (record { to = λ y d z. absurd ((told_unread hs q (below_low here_gives) (after s kind)).to y d z) })
 
       module _ {s₁ : Walk} (mv : Moves s n s₁) {o l w : List ℕ} {r : Walk} {o' l' w' : List ℕ} where
         pub titled_import : x ≡ H.Import → Walks t read_import (λ d a. say (decl_b d) a) s₁ o l w r o' l' w' → Walks t read_decl decl_walk s o l w r o' l' w'

@@ -1,6 +1,6 @@
 -- What the second pass promises of the whole tree.
 use Rattle.std.specs.Prelude.{ℕ, ◌+◌, ◌≤◌, ◌≡◌, List, [], length, get_or}
-use Rattle.penne.specs.Tree.{Spot, Tree, constant}
+use Rattle.penne.specs.Tree.{Spot, Tree}
 use Rattle.penne.specs.Write.{encode}
 use Rattle.penne.specs.Scoper.{answered_tree, skip_list, words}
 use Rattle.tree.specs.declared.script.Layout.{Layout}
@@ -14,7 +14,6 @@ use Rattle.walk.specs.Walking.{Input}
 use Rattle.answer.specs.declared.wrote.Wrote.{Wrote}
 use Rattle.answer.specs.declared.wrote.Wrote.TheVariants.{Bytes}
 use Rattle.scopes.specs.Calls.{Begins}
-use Rattle.containers.specs.Table.{at}
 use Rattle.walk.specs.declared.state.Walk.{Walk}
 use Rattle.stages.specs.declared.predeclare.Predeclared.{Predeclared}
 use Rattle.stages.specs.Stages.{MainName}

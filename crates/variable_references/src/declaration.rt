@@ -10,19 +10,19 @@ ghost use Rattle.declaration_parts.specs.Declaring.{decl_walk};
 ghost use Rattle.stages.specs.Heads.{own};
 ghost use Rattle.declaration_parts.specs.Heading.{begun_function, NewFunction, Arm, Heading, Keeps, function_parts};
 
-use answer::identifier::resolved;
 use declaration_parts::{
     constant, drop_declaration, function_head, import, started, structure, with_main,
 };
 use entries::parameters;
-use fields::counts::{Counted, count, declaration_counts};
-use fields::number::{Read, below};
-use stages::before::{Before, declared_before};
+use fields::counts::{count, declaration_counts};
+use fields::field::Identifier;
+use fields::number::below;
+use stages::before::declared_before;
 use stages::heads::{Head, Start, read_head};
 use statements::maybe_body;
 use types::maybe_type;
 use walk::items::copy_poison;
-use walk::names::{closed, function_at, opened};
+use walk::names::function_at;
 use walk::state::Walk;
 
 pub fn declaration(
@@ -30,21 +30,26 @@ pub fn declaration(
     answer: &mut [u8],
     list: &mut [u32],
     work: &mut [u32],
-    st: Walk,
-) -> Walk
-    ensures { Walks tree.now read_decl decl_walk st answer.old list.old work.old result answer.new list.new work.new }
+    st: &mut Walk,
+)
+    ensures { Walks tree.now read_decl decl_walk st.old answer.old list.old work.old st.new answer.new list.new work.new }
 {
-    let at = st.at;
-    let kind = below(tree, 6, at);
-    let Read::Number(k, a) = kind else {
-        return st;
+    let Ok((kind, at)) = below(tree, 6, st.at) else {
+        return;
     };
-    let head = read_head(tree, st.script.names, a, k);
+    let Ok(head) = read_head(tree, st.script.names, at, kind) else {
+        return;
+    };
     match head {
-        Head::Named(h) => named_declaration(tree, answer, list, work, st, k, h),
-        Head::Import => import(tree, answer, st.moved(a)),
-        Head::Poison => copy_poison(tree, answer, st.moved(a), 5),
-        Head::Unread => st,
+        Head::Named(h) => named_declaration(tree, answer, list, work, st, kind, h),
+        Head::Import => {
+            st.at = at;
+            import(tree, answer, st);
+        }
+        Head::Poison => {
+            st.at = at;
+            copy_poison(tree, answer, st, 5);
+        }
     }
 }
 
@@ -53,17 +58,16 @@ fn named_declaration(
     answer: &mut [u8],
     list: &mut [u32],
     work: &mut [u32],
-    st: Walk,
+    st: &mut Walk,
     kind: u32,
     h: Start,
-) -> Walk
-    ensures { Heading tree.now st kind h → Walks tree.now read_decl decl_walk st answer.old list.old work.old result answer.new list.new work.new }
+)
+    ensures { Heading tree.now st.old kind h → Walks tree.now read_decl decl_walk st.old answer.old list.old work.old st.new answer.new list.new work.new }
 {
-    let i = h.identifier;
-    let twice = declared_before(work, st, kind, i);
+    let twice = declared_before(work, st, kind, h.identifier);
     match twice {
-        Before::Yes(fault) => drop_declaration(tree, answer, st, fault),
-        Before::No => keep_declaration(tree, answer, list, work, st, kind, h),
+        Some(fault) => drop_declaration(tree, answer, st, fault),
+        None => keep_declaration(tree, answer, list, work, st, kind, h),
     }
 }
 
@@ -72,23 +76,22 @@ fn keep_declaration(
     answer: &mut [u8],
     list: &mut [u32],
     work: &mut [u32],
-    st: Walk,
+    st: &mut Walk,
     kind: u32,
     h: Start,
-) -> Walk
-    ensures { Keeps tree.now kind h st answer.old list.old work.old result answer.new list.new work.new }
+)
+    ensures { Keeps tree.now kind h st.old answer.old list.old work.old st.new answer.new list.new work.new }
 {
-    let counts = st.counts;
-    let more = count(counts, declaration_counts(kind));
-    let Counted::Are(c) = more else {
-        return st;
+    let before = st.counts;
+    let Some(counts) = count(before, declaration_counts(kind)) else {
+        return;
     };
-    let s = st.counted(c);
+    st.counts = counts;
     match kind {
-        0 => constant(tree, answer, list, work, s, h, counts.containers),
-        1 => function(tree, answer, list, work, s, h, counts.functions),
-        2 => function_head(tree, answer, work, s, h, counts.functions),
-        _ => structure(tree, answer, work, s, h, counts.containers),
+        0 => constant(tree, answer, list, work, st, h, before.containers),
+        1 => function(tree, answer, list, work, st, h, before.functions),
+        2 => function_head(tree, answer, work, st, h, before.functions),
+        _ => structure(tree, answer, work, st, h, before.containers),
     }
 }
 
@@ -98,18 +101,24 @@ fn function(
     answer: &mut [u8],
     list: &mut [u32],
     work: &mut [u32],
-    st: Walk,
+    st: &mut Walk,
     h: Start,
     row: u32,
-) -> Walk
-    ensures { (p q : Spot) → h.flags < 32 → h.identifier.name < st.script.names → renumbered tree.now h.places h.from ≡ place_b p ++ place_b q → Arm (NewFunction row (own h)) (begun_function (own h)) tree.now (function_parts h.flags p q (own h)) h.parts st answer.old list.old work.old result answer.new list.new work.new }
+)
+    ensures { (p q : Spot) → h.flags < 32 → h.identifier.name < st.old.script.names → renumbered tree.now h.places h.from ≡ place_b p ++ place_b q → Arm (NewFunction row (own h)) (begun_function (own h)) tree.now (function_parts h.flags p q (own h)) h.parts st.old answer.old list.old work.old st.new answer.new list.new work.new }
 {
-    let j = function_at(work, row as usize);
-    let i = h.identifier;
+    let outer = st.tables.scope;
+    let declared = function_at(work, row as usize);
+    let i = Identifier {
+        id: declared.id,
+        authority: 0,
+        ..h.identifier
+    };
     let flags = with_main(h.flags, i.name, st.script.main);
-    let s = started(tree, answer, st, 1, flags, h, resolved(i, j.id, 0));
-    let r = parameters(tree, answer, work, opened(s));
-    let q = maybe_body(tree, answer, list, work, r);
-    let o = closed(work, q, st);
-    maybe_type(tree, answer, work, o, 63)
+    started(tree, answer, st, 1, flags, h, i);
+    st.push_scope();
+    parameters(tree, answer, work, st);
+    maybe_body(tree, answer, list, work, st);
+    st.pop_scope(work, outer);
+    maybe_type(tree, answer, work, st, 63);
 }

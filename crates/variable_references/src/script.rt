@@ -7,7 +7,6 @@ ghost use Rattle.declaration_parts.specs.Declaring.{decls_walk};
 ghost use Rattle.variable_references.specs.Whole.{Started, References};
 
 use super::declaration::declaration;
-use answer::number::then_number;
 use answer::wrote::Wrote;
 use fields::counts::Counts;
 use scopes::scope::Scope;
@@ -35,44 +34,34 @@ pub fn variable_references(
     ensures { Known tree.now layout.names ends.now → References tree.now layout answer.old list.old work.old result answer.new list.new }
 {
     let begin = predeclare_all(tree, work, ends, layout);
-    let names = then_names(tree, answer);
-    let x = then_number(answer, names, layout.count);
-    let st = started(tree, layout, begin, x);
-    let s = declarations(tree, answer, list, work, st, layout.count);
-    determine_depths(work, s.script);
-    let w = s.wrote;
-    let listed = s.listed;
+    let wrote = then_names(tree, answer).then_number(answer, layout.count);
+    let mut st = started(tree, layout, begin, wrote);
+    declarations(tree, answer, list, work, &mut st, layout.count);
+    determine_depths(work, &st.script);
     Answered {
-        wrote: then_depths(tree, answer, work, ends, s.script, layout, w),
-        listed: listed,
+        wrote: then_depths(tree, answer, work, ends, &st.script, layout, st.wrote),
+        listed: st.listed,
     }
 }
 
 fn started(tree: &[u8], layout: Layout, begin: Predeclared, wrote: Wrote) -> Walk
     ensures { Started tree.now layout begin wrote result }
 {
-    let all = begin.counts;
-    let scope = Scope::new();
     Walk {
         at: layout.first,
-        wrote: wrote,
+        wrote,
         listed: Wrote::Bytes(0),
-        counts: Counts {
-            containers: 0,
-            functions: 0,
-            entries: 0,
-            statements: 0,
-        },
+        counts: Counts::NONE,
         tables: Tables {
-            scope: scope,
+            scope: Scope::new(),
             next_id: begin.next_id,
             constant: 0,
         },
         script: Script {
             names: layout.names,
             main: main_name(tree),
-            containers: all.containers,
-            functions: all.functions,
+            containers: begin.counts.containers,
+            functions: begin.counts.functions,
         },
     }
 }
@@ -82,16 +71,12 @@ fn declarations(
     answer: &mut [u8],
     list: &mut [u32],
     work: &mut [u32],
-    st: Walk,
+    st: &mut Walk,
     count: u32,
-) -> Walk
-    ensures { Walks tree.now (many read_decl count) decls_walk st answer.old list.old work.old result answer.new list.new work.new }
+)
+    ensures { Walks tree.now (many read_decl count) decls_walk st.old answer.old list.old work.old st.new answer.new list.new work.new }
 {
-    let mut s = st;
-    let mut rest = count;
-    while rest != 0 {
-        s = declaration(tree, answer, list, work, s);
-        rest -= 1;
+    for _ in 0..count {
+        declaration(tree, answer, list, work, st);
     }
-    s
 }

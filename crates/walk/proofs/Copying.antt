@@ -7,6 +7,8 @@ use native.Mathlib.Omega.{arith}
 use lib.Dec.{ltb, eqb}
 use lib.ListN.{length, get_or}
 use borrow.Author.Tests.{eqb-true}
+use Rattle.std.specs.Prelude.{Result, Ok, Err}
+use Rattle.fields.specs.declared.refusal.Refusal.{Refusal}
 use Rattle.penne.specs.Reader.{Cur, Got, got, refused, Reader, ◌>>=◌, ret, such, num, below, many, groups, last_group, moved, nothing}
 use Rattle.penne.specs.Tree.{Spot, poison, earlier}
 use Rattle.penne.specs.Read.{place, name, ident, poison_fields, poison_of, read_poison}
@@ -17,8 +19,6 @@ use Rattle.answer.proofs.Spelling.{num_reading}
 use Rattle.answer.proofs.Runs.{renumbered_end, renumbered_more}
 use Rattle.answer.specs.declared.wrote.Wrote.{Wrote}
 use Rattle.answer.specs.Out.{Put}
-use Rattle.fields.specs.declared.number.Read.{Read}
-use Rattle.fields.specs.declared.number.Read.TheVariants.{Number, Refused}
 use Rattle.walk.specs.declared.state.Walk.{Walk}
 use Rattle.walk.specs.Walking.{here, Moves, Writes, Ground, Leads, Walks, say}
 use Rattle.walk.proofs.Leading.{never, same_value, same_cur, bind_got, such_got, walks, leads_bind, leads_got, leads_part, leads_ended}
@@ -170,7 +170,7 @@ spelled_poison = spelled_by λ s c. leads_bind (below 18) _ λ k d h. poison_of_
 -- THE WALK COPIES A FIELD
 
 -- a kind, and the field behind it as it came in
-pub copied : {A : Type 0} {m : Reader A} {e : A → List ℕ} → Spelled m e → (kind : ℕ) {t : List ℕ} {s : Walk} {o l w : List ℕ} {m₁ : Read} {v n : ℕ} {x : Wrote} {o' : List ℕ} {s₁ r : Walk} → Ends m t s.script.names s.at m₁ → m₁ ≡ Number v n
+pub copied : {A : Type 0} {m : Reader A} {e : A → List ℕ} → Spelled m e → (kind : ℕ) {t : List ℕ} {s : Walk} {o l w : List ℕ} {m₁ : Result ℕ Refusal} {n : ℕ} {x : Wrote} {o' : List ℕ} {s₁ r : Walk} → Ends m t s.script.names s.at m₁ → m₁ ≡ Ok n
     → Put s.wrote (num_b kind ++ renumbered t s.at n) o x o' → Writes s x s₁ → Moves s₁ n r → Walks t m (λ y a. say (num_b kind ++ e y) a) s o l w r o' l w
 copied p kind {t} {s} {o} {n = n} {x} {o'} {s₁} g q put wr mv = walks λ h a i. leads_part g q λ y z. record {
   cur = sym (here_after wr mv);
@@ -178,5 +178,5 @@ copied p kind {t} {s} {o} {n = n} {x} {o'} {s₁} g q put wr mv = walks λ h a i
 }
 
 -- it can not be read
-pub uncopied : {A : Type 0} {m : Reader A} {f : A → Ground → Ground} {t : List ℕ} {s : Walk} {o l w : List ℕ} {m₁ : Read} {i p : ℕ} {r : Walk} {o' l' w' : List ℕ} → Ends m t s.script.names s.at m₁ → m₁ ≡ Refused i p → Walks t m f s o l w r o' l' w'
+pub uncopied : {A : Type 0} {m : Reader A} {f : A → Ground → Ground} {t : List ℕ} {s : Walk} {o l w : List ℕ} {m₁ : Result ℕ Refusal} {x : Refusal} {r : Walk} {o' l' w' : List ℕ} → Ends m t s.script.names s.at m₁ → m₁ ≡ Err x → Walks t m f s o l w r o' l' w'
 uncopied g q = walks λ h a i. leads_ended g q

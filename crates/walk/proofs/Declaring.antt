@@ -7,6 +7,8 @@ use native.Mathlib.Nat.{min-eq_left}
 use native.Mathlib.Omega.{arith}
 use lib.ListN.{length-append}
 use borrow.Rule.Slice.PartMut.{put_mid}
+use Rattle.std.specs.Prelude.{Ok, Err, Some, None}
+use Rattle.std.specs.Prelude as Rust
 use Rattle.penne.specs.Tree.{Spot, Ident, ok}
 use Rattle.penne.specs.Find.{resolved}
 use Rattle.penne.specs.Containers.{Container}
@@ -18,12 +20,8 @@ use Rattle.scopes.specs.Calls as S
 use Rattle.scopes.proofs.Analyzing.{mirrors_declare}
 use Rattle.walk.specs.declared.state.Walk.{Walk}
 use Rattle.walk.specs.declared.fault.Fault.{Fault}
-use Rattle.walk.specs.declared.names.Place.{Place}
-use Rattle.walk.specs.declared.names.Place.TheVariants as P
-use Rattle.walk.specs.declared.names.Named.TheVariants as N
-use Rattle.walk.specs.declared.names.Used.TheVariants as U
 use Rattle.answer.specs.Parts.{resolved_to}
-use Rattle.walk.specs.Walking.{Takes, here, scopes_in, Whose, nobody, somebody, Good, Is, silently, Made, made_as, made_not, walk_of, used_of, duplicate_fault}
+use Rattle.walk.specs.Walking.{Takes, here, scopes_in, Whose, nobody, somebody, Good, Is, silently, Made, made_as, made_not, duplicate_fault}
 use Rattle.walk.specs.Calls.{PlaceOfVariable, Pushes, DeclaresBy}
 use Rattle.walk.proofs.Early.{early_declare}
 use Rattle.walk.proofs.Tables.{scopes_changed, marks_kept, lower_scopes}
@@ -63,14 +61,14 @@ pushed_is {s} {i} {from} {w} {n} {more} {ys} {after} d e m = record {
   });
 }
 
-module _ (s : Walk) (i : Identifier) {from : ℕ} {w : List ℕ} {pl : Place} {after : Walk} {w' : List ℕ} (g : PlaceOfVariable s i.name w pl) {made : Identifier} (m : made ≡ resolved_to i s.tables.next_id 1) (d₀ : Pushes s made from w after w') where
+module _ (s : Walk) (i : Identifier) {from : ℕ} {w : List ℕ} {pl : Rust.Option ℕ} {after : Walk} {w' : List ℕ} (g : PlaceOfVariable s i.name w pl) {made : Identifier} (m : made ≡ resolved_to i s.tables.next_id 1) (d₀ : Pushes s made from w after w') where
   d : Pushes s (resolved_to i s.tables.next_id 1) from w after w'
   d = subst (λ (x : Identifier). Pushes s x from w after w') m d₀
 
   -- a name that is new
-  pub declared_new : {kind : ℕ} → pl ≡ P.Nowhere → DeclaresBy kind s i from w (N.As after made) w'
-  unfolding walk_of used_of declare_variable next_id with_stack push_variable unless_duplicate authoritative resolved
-  declared_new {kind} q = subst (λ (x : Identifier). DeclaresBy kind s i from w (N.As after x) w') (sym m) (record {
+  pub declared_new : {kind : ℕ} → pl ≡ None → DeclaresBy kind s i from w after (Ok made) w'
+  unfolding declare_variable next_id with_stack push_variable unless_duplicate authoritative resolved
+  declared_new {kind} q = subst (λ (x : Identifier). DeclaresBy kind s i from w after (Ok x) w') (sym m) (record {
     does = λ h₁ h₂. record {
       does = λ h low few o l a room out j. record {
         cur = d.cur;
@@ -78,16 +76,16 @@ module _ (s : Walk) (i : Identifier) {from : ℕ} {w : List ℕ} {pl : Place} {a
         made = λ z.
             let t = (j.when (record { few = omega (arith, z.few); fit = z.fit })).tables in
             let x = ident_of from i in
-            subst (λ (y : Option (Ident Spot)). Made from (U.As (resolved_to i s.tables.next_id 1)) (unless_duplicate kind (authoritative a.st x) y)) (sym (placed_nowhere (g.tells t) q))
-            (subst (λ (k : ℕ). Made from (U.As (resolved_to i s.tables.next_id 1)) (ok (resolved x k 1))) t.next made_as);
+            subst (λ (y : Option (Ident Spot)). Made from (Ok (resolved_to i s.tables.next_id 1)) (unless_duplicate kind (authoritative a.st x) y)) (sym (placed_nowhere (g.tells t) q))
+            (subst (λ (k : ℕ). Made from (Ok (resolved_to i s.tables.next_id 1)) (ok (resolved x k 1))) t.next made_as);
       };
     };
   })
 
   -- one that is there already
-  pub declared_again : {kind p : ℕ} {f : Fault} → pl ≡ P.At p → f ≡ duplicate_fault kind i p → DeclaresBy kind s i from w (N.Not after f) w'
-  unfolding walk_of used_of declare_variable next_id with_stack push_variable unless_duplicate authoritative resolved
-  declared_again {kind} {p} q e = subst (λ (x : Fault). DeclaresBy kind s i from w (N.Not after x) w') (sym e) (record {
+  pub declared_again : {kind p : ℕ} {f : Fault} → pl ≡ Some p → f ≡ duplicate_fault kind i p → DeclaresBy kind s i from w after (Err f) w'
+  unfolding declare_variable next_id with_stack push_variable unless_duplicate authoritative resolved
+  declared_again {kind} {p} q e = subst (λ (x : Fault). DeclaresBy kind s i from w after (Err x) w') (sym e) (record {
     does = λ h₁ h₂. record {
       does = λ h low few o l a room out j. record {
         cur = d.cur;
@@ -95,7 +93,7 @@ module _ (s : Walk) (i : Identifier) {from : ℕ} {w : List ℕ} {pl : Place} {a
         made = λ z.
             let t = (j.when (record { few = omega (arith, z.few); fit = z.fit })).tables in
             let b = placed_at (g.tells t) q in
-            subst (λ (y : Option (Ident Spot)). Made from (U.Not (duplicate_fault kind i p)) (unless_duplicate kind (authoritative a.st (ident_of from i)) y)) (sym b.1) (made_not (duplicate_bytes kind i from p b.0.place b.2 h₁ h₂));
+            subst (λ (y : Option (Ident Spot)). Made from (Err (duplicate_fault kind i p)) (unless_duplicate kind (authoritative a.st (ident_of from i)) y)) (sym b.1) (made_not (duplicate_bytes kind i from p b.0.place b.2 h₁ h₂));
       };
     };
   })

@@ -1,10 +1,10 @@
 -- A constant or structure is used: in a constant's value the use is an edge.
 use mathlib.Core.Path.{◌≡◌, refl, sym, ap, subst, ◌∙◌}
-use mathlib.Core.Bool.{false}
 use mathlib.Core.List.{List}
 use mathlib.Core.Option.{Option, none, some}
 use Prim.Native.Nat.{ℕ, ◌-◌, ◌≤◌, ◌<◌}
 use native.Mathlib.Omega.{arith}
+use Rattle.std.specs.Prelude.{Ok, Err, None}
 use Rattle.penne.specs.Tree.{Spot, Ident, Poison, Maybe, ok, err}
 use Rattle.penne.specs.Find.{resolved}
 use Rattle.penne.specs.Write.{poison_b}
@@ -17,12 +17,8 @@ use Rattle.containers.specs.declared.containers.Declared.{Declared}
 use Rattle.containers.specs.Table.{at, id_at}
 use Rattle.walk.specs.declared.state.Walk.{Walk}
 use Rattle.walk.specs.declared.fault.Fault.{Fault}
-use Rattle.walk.specs.declared.edges.Edge.{Edge}
-use Rattle.walk.specs.declared.edges.Edge.TheVariants as E
-use Rattle.walk.specs.declared.names.Used.{Used}
-use Rattle.walk.specs.declared.names.Used.TheVariants as U
-use Rattle.walk.specs.Walking.{Lower, Whose, nobody, somebody, Tables, Good, Stands, silently, fault_b, Made, made_as, made_not}
-use Rattle.walk.specs.Calls.{ContainerAt, use_row, UsesRow, no_member, Edged, fine, bad, EdgeTo}
+use Rattle.walk.specs.Walking.{Lower, Whose, nobody, somebody, Tables, Good, Stands, silently, fault_b, Made, made_as, made_not, Used}
+use Rattle.walk.specs.Calls.{ContainerAt, use_row, UsesRow, no_member, Edged, fine, bad, EdgeTo, Edge}
 use Rattle.walk.proofs.Tables.{marks_kept}
 use Rattle.walk.proofs.Using.{Keeps, as_ids, uses_ret}
 
@@ -36,11 +32,11 @@ whose_some (nobody e) h = absurd (omega arith)
 whose_some {cs} {count} {constant} (somebody {i = i} r e l q) h = let z : constant - 1 ≡ r = omega arith in (i, refl, omega arith, ap (λ (n : ℕ). (at cs n).identifier) z ∙ q)
 
 -- the edge by what the code says of it
-pub edge_fine : {A : Type 0} {x : A} {r : Edge} {y : Maybe Spot A} → Edged x r y → r ≡ E.Fine → y ≡ ok x
+pub edge_fine : {A : Type 0} {x : A} {r : Edge} {y : Maybe Spot A} → Edged x r y → r ≡ Ok tt → y ≡ ok x
 edge_fine fine e = refl
 edge_fine (bad q) e = absurd (let z : ◌≡◌ {A = ℕ} 0 1 = cc in omega arith)
 
-pub edge_bad : {A : Type 0} {x : A} {r : Edge} {y : Maybe Spot A} {f : Fault} → Edged x r y → r ≡ E.Bad f → (z : Poison Spot) × (y ≡ err z) × (fault_b f ≡ poison_b z)
+pub edge_bad : {A : Type 0} {x : A} {r : Edge} {y : Maybe Spot A} {f : Fault} → Edged x r y → r ≡ Err f → (z : Poison Spot) × (y ≡ err z) × (fault_b f ≡ poison_b z)
 edge_bad fine e = absurd (let z : ◌≡◌ {A = ℕ} 0 1 = cc in omega arith)
 edge_bad {f = f} (bad {f = g} {z = z} q) e = let d : g ≡ f = cc in (z, refl, ap fault_b (sym d) ∙ q)
 
@@ -61,14 +57,14 @@ module _ (s : Walk) (i : Identifier) {row : ℕ} {w : List ℕ} {d : Declared} (
   row_by x a t low {o} e = ap (λ (q : Option (Ident Spot)). use_containee (resolved x (at a.containment.containers row).identifier.id 0) q a) e ∙ ap (λ (n : ℕ). use_containee (resolved x n 0) o a) (sym (its_id a t low))
 
   -- not in a constant's value
-  pub use_row_lem : s.tables.constant < 1 → UsesRow s i row w (U.As (made i d.id)) w
+  pub use_row_lem : s.tables.constant < 1 → UsesRow s i row w (Ok (made i d.id)) w
   unfolding use_containee ret resolved
   use_row_lem h = record {
     does = λ low. uses_ret (use_row row) (row_keeps row) λ from a t. (ok (resolved (ident_of from i) d.id 0), row_by (ident_of from i) a t low (whose_none t.whose h), made_as);
   }
 
   -- in a constant's value
-  module _ {e : Edge} {w' : List ℕ} (h : 1 ≤ s.tables.constant) (k : EdgeTo s.script (record { row = s.tables.constant - 1; is_member = false; member = 0 }) row w e w') where
+  module _ {e : Edge} {w' : List ℕ} (h : 1 ≤ s.tables.constant) (k : EdgeTo s.script (record { row = s.tables.constant - 1; member = None }) row w e w') where
     edge_row : {u : Used} → ((from : ℕ) (y : Maybe Spot (Ident Spot)) → Edged (resolved (ident_of from i) d.id 0) e y → Made from u y) → UsesRow s i row w u w'
     unfolding use_containee on_containment id_at id_of resolved with_containment
     edge_row {u} say = record {
@@ -95,9 +91,9 @@ module _ (s : Walk) (i : Identifier) {row : ℕ} {w : List ℕ} {d : Declared} (
       };
     }
 
-    pub use_row_fine : e ≡ E.Fine → UsesRow s i row w (U.As (made i d.id)) w'
+    pub use_row_fine : e ≡ Ok tt → UsesRow s i row w (Ok (made i d.id)) w'
     unfolding resolved
-    use_row_fine q = edge_row λ from y v. subst (λ (z : Maybe Spot (Ident Spot)). Made from (U.As (made i d.id)) z) (sym (edge_fine v q)) made_as
+    use_row_fine q = edge_row λ from y v. subst (λ (z : Maybe Spot (Ident Spot)). Made from (Ok (made i d.id)) z) (sym (edge_fine v q)) made_as
 
-    pub use_row_bad : {f : Fault} → e ≡ E.Bad f → UsesRow s i row w (U.Not f) w'
-    use_row_bad {f} q = edge_row λ from y v. let b = edge_bad v q in subst (λ (z : Maybe Spot (Ident Spot)). Made from (U.Not f) z) (sym b.1) (made_not b.2)
+    pub use_row_bad : {f : Fault} → e ≡ Err f → UsesRow s i row w (Err f) w'
+    use_row_bad {f} q = edge_row λ from y v. let b = edge_bad v q in subst (λ (z : Maybe Spot (Ident Spot)). Made from (Err f) z) (sym b.1) (made_not b.2)

@@ -9,15 +9,17 @@ use Rattle.penne.specs.Write.{poison_b}
 use Rattle.fields.specs.declared.field.Identifier.{Identifier}
 use Rattle.fields.specs.Answers.{ident_of, poison_names, poison_places}
 use Rattle.answer.proofs.Fields.{poison_bytes}
-use Rattle.walk.specs.Walking.{fault_b, poisoned_fault, undefined_fault, duplicate_fault}
+use Rattle.answer.specs.Parts.{poisoned_b}
+use Rattle.walk.specs.declared.fault.Fault.TheVariants as F
+use Rattle.walk.specs.Walking.{fault_b, duplicate_fault}
 
 -- Poisoned
-pub poisoned_bytes : fault_b poisoned_fault ≡ poison_b (poison 0 [] [])
+pub poisoned_bytes : fault_b F.Poisoned ≡ poison_b (poison 0 [] [])
 unfolding poison_names poison_places poison_fields
 poisoned_bytes = poison_bytes 0 [] [] (0 ∷ 0 ∷ []) (0 ∷ 0 ∷ 0 ∷ 0 ∷ []) refl refl
 
--- UndefinedVariable (9), UndefinedFunction (10), UndefinedStructure (11), and whatever has one name and one place
-pub undefined_bytes : (k : ℕ) (i : Identifier) (from : ℕ) → 1 ≡ get_or poison_names k 0 → 1 ≡ get_or poison_places k 0 → fault_b (undefined_fault k i) ≡ poison_b (poison k (i.name ∷ []) ((ident_of from i).place ∷ []))
+-- UndefinedLabel (2), UndefinedVariable (9), UndefinedFunction (10), UndefinedStructure (11), and whatever has one name and one place
+pub undefined_bytes : (k : ℕ) (i : Identifier) (from : ℕ) → 1 ≡ get_or poison_names k 0 → 1 ≡ get_or poison_places k 0 → poisoned_b k (i.name ∷ 0 ∷ []) (i.place ∷ 0 ∷ 0 ∷ 0 ∷ []) ≡ poison_b (poison k (i.name ∷ []) ((ident_of from i).place ∷ []))
 undefined_bytes k i from h l = poison_bytes k (i.name ∷ []) ((ident_of from i).place ∷ []) (0 ∷ []) (0 ∷ 0 ∷ 0 ∷ []) h l
 
 -- DuplicateDeclaration (3 to 8), NotACompileTimeConstant (12)

@@ -8,6 +8,10 @@ use native.Mathlib.Omega.{arith}
 use lib.Dec.{eqb}
 use lib.ListN.{get_or}
 use borrow.Author.Tests.{eqb-true, eqb-false}
+use Rattle.std.specs.Prelude.{Result}
+use Rattle.fields.specs.declared.refusal.Refusal.{Refusal}
+use Rattle.std.specs.Prelude as Rust
+use Rattle.std.specs.Prelude.{Ok, Err, Some, None}
 use Rattle.penne.specs.Reader.{Counts, Cur, got, Reader, such, num, below}
 use Rattle.penne.specs.State as S
 use Rattle.penne.specs.State.{◌>>?◌}
@@ -16,30 +20,22 @@ use Rattle.penne.specs.Read.{ident, read_ty, ty_of, TyKind, ty_kinds, k_plain, k
 use Rattle.penne.specs.Find.{first_named}
 use Rattle.penne.specs.Containers.{Containment, id_of, found_container_1, found_container}
 use Rattle.penne.specs.Scopes.{Analyzer, with_containment}
-use Rattle.fields.specs.declared.number.Read.{Read}
-use Rattle.fields.specs.declared.number.Read.TheVariants.{Number, Refused}
 use Rattle.fields.specs.declared.field.Identifier.{Identifier}
-use Rattle.fields.specs.declared.field.Identified.{Identified}
-use Rattle.fields.specs.declared.field.Identified.TheVariants as I
 use Rattle.fields.specs.declared.counts.Counts as K
-use Rattle.fields.proofs.Fields.{get_d_past}
+use Rattle.std.proofs.lemmas.List.{get_or_past}
 use Rattle.fields.specs.Answers.{cursor, number_of, end_of, identified_of, Gives, Ends, Identifies}
-use Rattle.fields.proofs.Back.{forget_got}
+use Rattle.fields.proofs.Back.{forget_got, forget_refused}
 use Rattle.nodes.proofs.Types.{run}
 use Rattle.fields.proofs.Numbers.{such_got as such_is}
-use Rattle.containers.specs.declared.containers.Found.{Found}
-use Rattle.containers.specs.declared.containers.Found.TheVariants.{At, Nothing}
 use Rattle.containers.specs.Table.{at, id_at, kind_of}
 use Rattle.containers.specs.Calls.{found_in, of_kind}
 use Rattle.walk.specs.declared.state.Script.{Script}
 use Rattle.walk.specs.declared.state.Tables as W
 use Rattle.walk.specs.declared.fault.Fault.{Fault}
 use Rattle.walk.specs.declared.edges.Holder.{Holder}
-use Rattle.walk.specs.declared.edges.Edge.{Edge}
-use Rattle.walk.specs.declared.edges.Edge.TheVariants as E
 use Rattle.walk.specs.Walking.{Tables, Lower, Leads}
-use Rattle.walk.specs.Calls.{FindsIn, Member, Edged, fine, bad, EdgeTo, Handed, Resolves, Settles, as_plain, in_array, in_named_length, in_arraylike, as_struct, as_word, as_unresolved, as_nameless, as_pointer, as_view, FoundNamed, FoundLength, FoundIn}
-use Rattle.walk.proofs.Leading.{never, same_value, same_cur, bind_got, such_got, unend_go, leads_bind, leads_got, leads_such, leads_deep, bind_is}
+use Rattle.walk.specs.Calls.{FindsIn, Member, Edged, fine, bad, EdgeTo, Handed, Resolves, Settles, as_plain, in_array, in_named_length, in_arraylike, as_struct, as_word, as_unresolved, as_nameless, as_pointer, as_view, FoundNamed, FoundLength, FoundIn, Edge}
+use Rattle.walk.proofs.Leading.{never, same_value, same_cur, bind_got, such_got, leads_bind, leads_got, leads_such, leads_deep, bind_is}
 use Rattle.walk.proofs.Edging.{edge_fine, edge_bad}
 use Rattle.walk.proofs.Settling.{SameNames, found_type_names, names_row, resolves_kept, settles_analysed}
 
@@ -74,33 +70,31 @@ lower_then : {w w₁ w₂ : List ℕ} → Lower w w₁ → Lower w₁ w₂ → L
 lower_then p q = record { same = λ i h. q.same i h ∙ p.same i h }
 
 -- nothing is handed over
-none_handed : {n : W.Tables} {k : Script} {e : K.Counts} {w : List ℕ} {a : Analyzer Spot} {A : Type 0} (x : A) → Tables n k e w a → Handed n k e w w a x E.Fine (ok x, a.containment)
+none_handed : {n : W.Tables} {k : Script} {e : K.Counts} {w : List ℕ} {a : Analyzer Spot} {A : Type 0} (x : A) → Tables n k e w a → Handed n k e w w a x (Ok tt) (ok x, a.containment)
 unfolding with_containment
 none_handed {w = w} x t = record { tables = t; lower = lower_same w; edged = fine }
 
 -- A NAME
 
-read_name : (names : ℕ) {t : List ℕ} {from : ℕ} {one : Identified} {i : Identifier} {m : ℕ} → Identifies t names from one → one ≡ I.Is i m → (q : Counts) {d : Cur} {j : Ident Spot} → ident t (cursor from names q) ≡ got j d → i.name ≡ j.name
-unfolding identified_of
-read_name names {from = from} g e q u = ap (λ (x : Ident Spot). x.name) (same_value (sym (ap (identified_of names from q) e) ∙ g.is q ∙ u))
+read_name : (names : ℕ) {t : List ℕ} {from : ℕ} {one : Result (Identifier × ℕ) Refusal} {i : Identifier} {m : ℕ} → Identifies t names from one → one ≡ Ok (i, m) → (q : Counts) {d : Cur} {j : Ident Spot} → ident t (cursor from names q) ≡ got j d → i.name ≡ j.name
+read_name names {from = from} g e q u = ap (λ (x : Ident Spot). x.name) (same_value (sym (g.is q ∙ ap (identified_of names from q) e) ∙ u))
 
-module _ {t : List ℕ} (k : Script) {from kind : ℕ} {w : List ℕ} {one : Identified} (g : Identifies t k.names from one) where
-  pub named_unread : {h : Holder} {i p : ℕ} {r : Edge} {w' : List ℕ} → one ≡ I.Not i p → FoundNamed t k h from kind w r w'
-  unfolding identified_of
-  named_unread e = record { does = λ b low mem c z structure ks q d i i' u res. never (sym (ap (identified_of k.names from q) e) ∙ g.is q ∙ u) }
+module _ {t : List ℕ} (k : Script) {from kind : ℕ} {w : List ℕ} {one : Result (Identifier × ℕ) Refusal} (g : Identifies t k.names from one) where
+  pub named_unread : {h : Holder} {x : Refusal} {r : Edge} {w' : List ℕ} → one ≡ Err x → FoundNamed t k h from kind w r w'
+  named_unread e = record { does = λ b low mem c z structure ks q d i i' u res. never (sym (g.is q ∙ ap (identified_of k.names from q) e) ∙ u) }
 
-  module _ (i : Identifier) {m : ℕ} (e : one ≡ I.Is i m) {r₁ : Found} (f : FindsIn k kind i.name w r₁) where
+  module _ (i : Identifier) {m : ℕ} (e : one ≡ Ok (i, m)) {r₁ : Rust.Option ℕ} (f : FindsIn k kind i.name w r₁) where
     found_is : {n : W.Tables} {c : K.Counts} {a : Analyzer Spot} → Tables n k c w a → (structure : Bool) → kind ≡ kind_of structure → (q : Counts) {d : Cur} {j : Ident Spot} → ident t (cursor from k.names q) ≡ got j d
         → found_in a.containment.containers r₁ ≡ first_named j.name (of_kind structure a.containment.containers)
     found_is {a = a} b structure ks q u = (f.finds b.long).finds a.containment b.containers structure ks ∙ ap (λ (x : ℕ). first_named x (of_kind structure a.containment.containers)) (read_name k.names g e q u)
 
-    pub named_nothing : {h : Holder} {r : Edge} {w' : List ℕ} → r₁ ≡ Nothing → FoundNamed t k h from kind w r w'
+    pub named_nothing : {h : Holder} {r : Edge} {w' : List ℕ} → r₁ ≡ None → FoundNamed t k h from kind w r w'
     unfolding found_in
     named_nothing z = record {
       does = λ {n} {e = e₁} {a} b low mem c y structure ks q d j j' u res. absurd (let p = ap (found_in a.containment.containers) (sym z) ∙ found_is b structure ks q u ∙ res.is in let o : ◌≡◌ {A = ℕ} 0 1 = cc in omega arith);
     }
 
-    pub named_at : {h : Holder} {row : ℕ} {r : Edge} {w' : List ℕ} → r₁ ≡ At row → EdgeTo k h row w r w' → FoundNamed t k h from kind w r w'
+    pub named_at : {h : Holder} {row : ℕ} {r : Edge} {w' : List ℕ} → r₁ ≡ Some row → EdgeTo k h row w r w' → FoundNamed t k h from kind w r w'
     unfolding found_in id_at id_of
     named_at {row = row} z to = record {
       does = λ {n} {e = e₁} {a} b low mem c y structure ks q d j j' u res.
@@ -126,31 +120,30 @@ again_bad (bad e) = bad e
 
 module _ {t : List ℕ} {m : Reader (Ty Spot)} {k : Script} {h : Holder} {from : ℕ} {w : List ℕ} {r₁ : Edge} {w₁ : List ℕ} (f : FoundIn t m k h from w r₁ w₁) where
   -- the element is refused
-  pub length_bad : {v : Fault} → r₁ ≡ E.Bad v → FoundLength t m k h from w r₁ w₁
+  pub length_bad : {v : Fault} → r₁ ≡ Err v → FoundLength t m k h from w (Err v) w₁
   unfolding S.or_poison S.ret
-  length_bad e = record {
+  length_bad e = subst (λ (u : Edge). FoundLength t m k h from w u w₁) e (record {
     does = λ {n} {e = e₁} {a} b low {o} mem c y q b₁ d x x' i i' u g st res.
         let v₁ = f.by b low mem c y q b₁ x x' u st in
         let (z, zs, _) = edge_bad v₁.edged e in
         subst (λ (v : Maybe Spot (Ty Spot) × Containment Spot). Handed n k e₁ w w₁ a (array_with_named_length x' i') r₁ v) (sym (length_is c o x' i' a.containment zs)) (record { tables = v₁.tables; lower = v₁.lower; edged = again_bad (subst (λ (v : Maybe Spot (Ty Spot)). Edged x' r₁ v) zs v₁.edged) });
-  }
+  })
 
   -- the element can not be passed over
-  pub length_unread : (s : Reader (Ty Spot)) → Wider t m s → {m₁ : Read} {i p : ℕ} {r : Edge} {w' : List ℕ} → Ends s t k.names from m₁ → m₁ ≡ Refused i p → FoundLength t m k h from w r w'
-  unfolding end_of
-  length_unread s own g e = record { does = λ b low mem c y q b₁ d x x' i i' u v st res. never (sym (unend_go (s t (cursor from k.names q)) (sym (ap (end_of k.names q) e) ∙ g.is q)) ∙ own.is _ x b₁ u) }
+  pub length_unread : (s : Reader (Ty Spot)) → Wider t m s → {m₁ : Result ℕ Refusal} {x : Refusal} {r : Edge} {w' : List ℕ} → Ends s t k.names from m₁ → m₁ ≡ Err x → FoundLength t m k h from w r w'
+  length_unread s own g e = record { does = λ b low mem c y q b₁ d x x' i i' u v st res. never (sym (forget_refused (s t (cursor from k.names q)) _ _ (g.is q ∙ ap (end_of k.names q) e)) ∙ own.is _ x b₁ u) }
 
   -- then its length
-  pub length_fine : (s : Reader (Ty Spot)) → Wider t m s → {m₁ : Read} {v n₁ : ℕ} {r : Edge} {w' : List ℕ} → r₁ ≡ E.Fine → Ends s t k.names from m₁ → m₁ ≡ Number v n₁
+  pub length_fine : (s : Reader (Ty Spot)) → Wider t m s → {m₁ : Result ℕ Refusal} {n₁ : ℕ} {r : Edge} {w' : List ℕ} → r₁ ≡ Ok tt → Ends s t k.names from m₁ → m₁ ≡ Ok n₁
       → FoundNamed t k h n₁ 0 w₁ r w' → FoundLength t m k h from w r w'
-  unfolding S.or_poison with_containment kind_of end_of
+  unfolding S.or_poison with_containment kind_of
   length_fine s own {n₁ = n₁} {r} {w'} e g z to = record {
     does = λ {n} {e = e₁} {a} b low {o} mem c y q b₁ d x x' i i' u v st res.
         let v₁ = f.by b low mem c y q b₁ x x' u st in
         let s₁ : Containment Spot = (found_container c o x' a.containment).1 in
         let kept : SameNames a.containment s₁ = found_type_names c o x' a.containment in
         let count = b.containers.counted in
-        let end = forget_got (s t (cursor from k.names q)) (sym (ap (end_of k.names q) z) ∙ g.is q) in
+        let end = forget_got (s t (cursor from k.names q)) _ (g.is q ∙ ap (end_of k.names q) z) in
         let here : b₁ ≡ cursor n₁ k.names q = same_cur (sym (own.is _ x b₁ u) ∙ end.1) in
         let v' : ident t (cursor n₁ k.names q) ≡ got i d = ap (ident t) (sym here) ∙ v in
         let v₂ = to.does v₁.tables low mem c (names_row kept h.row (omega arith) ∙ y) false refl q d i i' v' (resolves_kept kept res) in
@@ -205,12 +198,12 @@ found_in_lem f = record {
   does = λ {n} {e} {a} b low mem c y q d x x' a₀ u z. let v = ((f.leads b low mem c y q).to x d u).by x' (settles_analysed x x' a₀ a z b.layer) in (v.tables, v.lower, v.edged);
 }
 
-module _ {t : List ℕ} {k : Script} {h : Holder} {from : ℕ} {w : List ℕ} {m₁ : Read} (g : Gives (below 26) t from m₁) where
+module _ {t : List ℕ} {k : Script} {h : Holder} {from : ℕ} {w : List ℕ} {m₁ : Result (ℕ × ℕ) Refusal} (g : Gives (below 26) t from m₁) where
   -- the kind can not be read, or the type is too deep
-  pub type_unread : (left : ℕ) (own : Bool) {i p : ℕ} {r : Edge} {w' : List ℕ} → m₁ ≡ Refused i p → FoundIn t (read_ty left own) k h from w r w'
-  unfolding read_ty number_of
+  pub type_unread : (left : ℕ) (own : Bool) {x : Refusal} {r : Edge} {w' : List ℕ} → m₁ ≡ Err x → FoundIn t (read_ty left own) k h from w r w'
+  unfolding read_ty
   type_unread zero own e = found_in_lem (record { leads = λ b low mem c y q. leads_deep (below 26) })
-  type_unread (suc l) own e = found_in_lem (record { leads = λ b low mem c y q. leads_such (below 26) _ 9 _ λ n d u z. never (sym (ap (number_of k.names q) e) ∙ g.is k.names q ∙ u) })
+  type_unread (suc l) own e = found_in_lem (record { leads = λ b low mem c y q. leads_such (below 26) _ 9 _ λ n d u z. never (sym (g.is k.names q ∙ ap (number_of k.names q) e) ∙ u) })
 
   pub type_deep : (left : ℕ) (own : Bool) {r : Edge} {w' : List ℕ} → left ≡ 0 → FoundIn t (read_ty left own) k h from w r w'
   unfolding read_ty
@@ -218,15 +211,15 @@ module _ {t : List ℕ} {k : Script} {h : Holder} {from : ℕ} {w : List ℕ} {m
   type_deep (suc l) own z = absurd (omega arith)
 
   -- behind the kind
-  type_in : (left : ℕ) (own : Bool) {v n : ℕ} {r : Edge} {w' : List ℕ} → (left ≡ 0 → ⊥) → m₁ ≡ Number v n → Follows t (ty_of (read_ty (left - 1) own) (read_ty (left - 1) false) v (get_or ty_kinds v k_plain)) k h n w r w' → FoundIn t (read_ty left own) k h from w r w'
-  unfolding read_ty number_of
+  type_in : (left : ℕ) (own : Bool) {v n : ℕ} {r : Edge} {w' : List ℕ} → (left ≡ 0 → ⊥) → m₁ ≡ Ok (v, n) → Follows t (ty_of (read_ty (left - 1) own) (read_ty (left - 1) false) v (get_or ty_kinds v k_plain)) k h n w r w' → FoundIn t (read_ty left own) k h from w r w'
+  unfolding read_ty
   type_in zero own z e f = absurd (z refl)
   type_in (suc l) own {v} {n} {r} {w'} z e f =
       let j : suc l - 1 ≡ l = omega arith in
       let f' : Follows t (ty_of (read_ty l own) (read_ty l false) v (get_or ty_kinds v k_plain)) k h n w r w' = subst (λ (i : ℕ). Follows t (ty_of (read_ty i own) (read_ty i false) v (get_or ty_kinds v k_plain)) k h n w r w') j f in
       found_in_lem (record {
         leads = λ {n = n₁} {e = e₁} {a} b low {o} mem c y q. leads_such (below 26) _ 9 _ λ v' d u x.
-            let same = sym (ap (number_of k.names q) e) ∙ g.is k.names q ∙ u in
+            let same = sym (g.is k.names q ∙ ap (number_of k.names q) e) ∙ u in
             let here = f'.leads b low mem c y q in
             subst (λ (i : ℕ). Leads (ty_of (read_ty l own) (read_ty l false) i (get_or ty_kinds i k_plain)) t d (λ x d. Claim n₁ k e₁ w w' a c o r x)) (same_value same)
             (subst (λ (i : Cur). Leads (ty_of (read_ty l own) (read_ty l false) v (get_or ty_kinds v k_plain)) t i (λ x d. Claim n₁ k e₁ w w' a c o r x)) (same_cur same) here);
@@ -279,32 +272,32 @@ module _ {n : W.Tables} {k : Script} {e : K.Counts} {w w' : List ℕ} {a : Analy
 
 -- nothing is looked at
 module _ {n : W.Tables} {k : Script} {e : K.Counts} {w : List ℕ} {a : Analyzer Spot} {c : Ident Spot} {o : Option (Ident Spot)} (b : Tables n k e w a) where
-  plain_claim : (l : ℕ) → Claim n k e w w a c o E.Fine (plain l)
+  plain_claim : (l : ℕ) → Claim n k e w w a c o (Ok tt) (plain l)
   unfolding found_container S.ret
   plain_claim l = record { by = λ x' st. go st }
     where
-      go : {x'' : Ty Spot} → Settles a.containment (plain l) x'' → Handed n k e w w a x'' E.Fine (found_container c o x'' a.containment)
+      go : {x'' : Ty Spot} → Settles a.containment (plain l) x'' → Handed n k e w w a x'' (Ok tt) (found_container c o x'' a.containment)
       go as_plain = none_handed (plain l) b
 
-  nameless_claim : Claim n k e w w a c o E.Fine nameless
+  nameless_claim : Claim n k e w w a c o (Ok tt) nameless
   unfolding found_container S.ret
   nameless_claim = record { by = λ x' st. go st }
     where
-      go : {x'' : Ty Spot} → Settles a.containment nameless x'' → Handed n k e w w a x'' E.Fine (found_container c o x'' a.containment)
+      go : {x'' : Ty Spot} → Settles a.containment nameless x'' → Handed n k e w w a x'' (Ok tt) (found_container c o x'' a.containment)
       go as_nameless = none_handed nameless b
 
-  pointer_claim : (x : Ty Spot) → Claim n k e w w a c o E.Fine (pointer x)
+  pointer_claim : (x : Ty Spot) → Claim n k e w w a c o (Ok tt) (pointer x)
   unfolding found_container S.ret
   pointer_claim x = record { by = λ x' st. go st }
     where
-      go : {x'' : Ty Spot} → Settles a.containment (pointer x) x'' → Handed n k e w w a x'' E.Fine (found_container c o x'' a.containment)
+      go : {x'' : Ty Spot} → Settles a.containment (pointer x) x'' → Handed n k e w w a x'' (Ok tt) (found_container c o x'' a.containment)
       go (as_pointer {x' = x'}) = none_handed (pointer x') b
 
-  view_claim : (x : Ty Spot) → Claim n k e w w a c o E.Fine (view x)
+  view_claim : (x : Ty Spot) → Claim n k e w w a c o (Ok tt) (view x)
   unfolding found_container S.ret
   view_claim x = record { by = λ x' st. go st }
     where
-      go : {x'' : Ty Spot} → Settles a.containment (view x) x'' → Handed n k e w w a x'' E.Fine (found_container c o x'' a.containment)
+      go : {x'' : Ty Spot} → Settles a.containment (view x) x'' → Handed n k e w w a x'' (Ok tt) (found_container c o x'' a.containment)
       go (as_view {x' = x'}) = none_handed (view x') b
 
 -- THE KINDS
@@ -341,17 +334,17 @@ module _ {t : List ℕ} (u v : Reader (Ty Spot)) (j : ℕ) {k : Script} {h : Hol
       (λ l₂. let e : j ≡ 22 = omega arith in as_kind k_unresolved (rw e) (record { leads = λ b low mem c y q. leads_bind ident _ λ i d g. leads_got (unresolved i) (unresolved_claim (record { by = λ i' res. f.does b low mem c y true refl q d i i' g res })) })))
 
 module _ {t : List ℕ} (u v : Reader (Ty Spot)) (j : ℕ) {k : Script} {h : Holder} {from : ℕ} {w : List ℕ} where
-  of_plain : get_or ty_kinds j k_plain ≡ k_plain → Follows t (ty_of u v j (get_or ty_kinds j k_plain)) k h from w E.Fine w
+  of_plain : get_or ty_kinds j k_plain ≡ k_plain → Follows t (ty_of u v j (get_or ty_kinds j k_plain)) k h from w (Ok tt) w
   unfolding ty_of
   of_plain e = as_kind u v j k_plain e (record { leads = λ b low mem c y q. leads_got (plain j) (plain_claim b j) })
 
   -- 0 to 13
-  of_low : j < 14 → Follows t (ty_of u v j (get_or ty_kinds j k_plain)) k h from w E.Fine w
+  of_low : j < 14 → Follows t (ty_of u v j (get_or ty_kinds j k_plain)) k h from w (Ok tt) w
   unfolding ty_kinds
   of_low hi = of_plain (run ty_kinds 0 14 k_plain k_plain refl j (omega arith) (omega arith))
 
   -- 23 and more
-  of_high : 23 ≤ j → Follows t (ty_of u v j (get_or ty_kinds j k_plain)) k h from w E.Fine w
+  of_high : 23 ≤ j → Follows t (ty_of u v j (get_or ty_kinds j k_plain)) k h from w (Ok tt) w
   unfolding ty_kinds ty_of
   of_high lo = either j 23 lo
       (λ e. as_kind u v j k_nameless (rw e) (record { leads = λ b low mem c y q. leads_got nameless (nameless_claim b) }))
@@ -359,11 +352,11 @@ module _ {t : List ℕ} (u v : Reader (Ty Spot)) (j : ℕ) {k : Script} {h : Hol
       (λ e. as_kind u v j k_pointer (rw e) (record { leads = λ b low mem c y q. leads_bind v _ λ x d g. leads_got (pointer x) (pointer_claim b x) }))
       (λ l₂. either j 25 l₂
       (λ e. as_kind u v j k_view (rw e) (record { leads = λ b low mem c y q. leads_bind v _ λ x d g. leads_got (view x) (view_claim b x) }))
-      (λ l₃. of_plain (get_d_past ty_kinds j k_plain l₃))))
+      (λ l₃. of_plain (get_or_past ty_kinds j k_plain l₃))))
 
 -- THE ARMS OF found_container
 
-module _ {t : List ℕ} {k : Script} {h : Holder} {from : ℕ} {w : List ℕ} {m₁ : Read} (g : Gives (below 26) t from m₁) (left : ℕ) (own : Bool) (z : left ≡ 0 → ⊥) {v n : ℕ} (e : m₁ ≡ Number v n) where
+module _ {t : List ℕ} {k : Script} {h : Holder} {from : ℕ} {w : List ℕ} {m₁ : Result (ℕ × ℕ) Refusal} (g : Gives (below 26) t from m₁) (left : ℕ) (own : Bool) (z : left ≡ 0 → ⊥) {v n : ℕ} (e : m₁ ≡ Ok (v, n)) where
   module _ {r : Edge} {w' : List ℕ} where
     pub type_array : v ≡ 14 → FoundIn t (read_ty (left - 1) own) k h n w r w' → FoundIn t (read_ty left own) k h from w r w'
     type_array j f = type_in g left own z e (of_array _ _ _ j f)
@@ -377,8 +370,8 @@ module _ {t : List ℕ} {k : Script} {h : Holder} {from : ℕ} {w : List ℕ} {m
     pub type_name : 20 ≤ v → v < 23 → FoundNamed t k h n 3 w r w' → FoundIn t (read_ty left own) k h from w r w'
     type_name lo hi f = type_in g left own z e (of_name _ _ _ lo hi f)
 
-  pub type_low : v < 14 → FoundIn t (read_ty left own) k h from w E.Fine w
+  pub type_low : v < 14 → FoundIn t (read_ty left own) k h from w (Ok tt) w
   type_low hi = type_in g left own z e (of_low _ _ _ hi)
 
-  pub type_high : 23 ≤ v → FoundIn t (read_ty left own) k h from w E.Fine w
+  pub type_high : 23 ≤ v → FoundIn t (read_ty left own) k h from w (Ok tt) w
   type_high lo = type_in g left own z e (of_high _ _ _ lo)

@@ -5,6 +5,7 @@ use mathlib.Core.Option.{Option}
 use Prim.Native.Nat.{ℕ, ◌<◌}
 use native.Mathlib.Omega.{arith}
 use borrow.Rule.Slice.PartMut.{put_mid}
+use Rattle.std.specs.Prelude.{Ok, Err}
 use Rattle.penne.specs.Tree.{Spot, Ident, Maybe}
 use Rattle.penne.specs.Containers.{id_of, found_container_1}
 use Rattle.penne.specs.Scopes.{Analyzer, with_containment}
@@ -17,11 +18,10 @@ use Rattle.containers.proofs.Starting.{found_kept}
 use Rattle.walk.specs.declared.state.Script.{Script}
 use Rattle.walk.specs.declared.state.Tables as W
 use Rattle.walk.specs.declared.fault.Fault.{Fault}
+use Rattle.walk.specs.declared.fault.Fault.TheVariants as F
 use Rattle.walk.specs.declared.edges.Holder.{Holder}
-use Rattle.walk.specs.declared.edges.Edge.{Edge}
-use Rattle.walk.specs.declared.edges.Edge.TheVariants as E
-use Rattle.walk.specs.Walking.{containers_in, Tables, poisoned_fault}
-use Rattle.walk.specs.Calls.{Member, Edged, fine, bad, EdgeTo, Cyclical}
+use Rattle.walk.specs.Walking.{containers_in, Tables}
+use Rattle.walk.specs.Calls.{Member, Edged, fine, bad, EdgeTo, Cyclical, Edge}
 use Rattle.walk.proofs.Tables.{containers_changed, lower_containers}
 use Rattle.walk.proofs.Faults.{poisoned_bytes}
 
@@ -42,18 +42,15 @@ module _ {k : Script} (h : Holder) {n : ℕ} {w : List ℕ} {r : Contained} {ys 
         (b', lower_containers w ys b.long (f.long ∙ b.containers.long), say t e a m c x b' low mem ((found_kept c m x a.containment).same h.row (omega arith) ∙ q) v.answer);
   }
 
-  pub edge_to_fine : r ≡ T.Fine → EdgeTo k h n w E.Fine (put_mid 13312 1668 w ys)
+  pub edge_to_fine : r ≡ T.Fine → EdgeTo k h n w (Ok tt) (put_mid 13312 1668 w ys)
   unfolding answer_of
-  edge_to_fine e = edge_by λ t₁ e₁ a m c x b low mem q z. subst (λ (y : Maybe Spot (Ident Spot)). Edged x E.Fine y) (sym (ap (λ (v : Contained). answer_of v c m x (found_container_1 c m x a.containment).1.containers) e) ∙ z) fine
+  edge_to_fine e = edge_by λ t₁ e₁ a m c x b low mem q z. subst (λ (y : Maybe Spot (Ident Spot)). Edged x (Ok tt) y) (sym (ap (λ (v : Contained). answer_of v c m x (found_container_1 c m x a.containment).1.containers) e) ∙ z) fine
 
-  pub edge_to_poisoned : r ≡ T.Poisoned → EdgeTo k h n w (E.Bad poisoned_fault) (put_mid 13312 1668 w ys)
+  pub edge_to_poisoned : r ≡ T.Poisoned → EdgeTo k h n w (Err F.Poisoned) (put_mid 13312 1668 w ys)
   unfolding answer_of
-  edge_to_poisoned e = edge_by λ t₁ e₁ a m c x b low mem q z. subst (λ (y : Maybe Spot (Ident Spot)). Edged x (E.Bad poisoned_fault) y) (sym (ap (λ (v : Contained). answer_of v c m x (found_container_1 c m x a.containment).1.containers) e) ∙ z) (bad poisoned_bytes)
+  edge_to_poisoned e = edge_by λ t₁ e₁ a m c x b low mem q z. subst (λ (y : Maybe Spot (Ident Spot)). Edged x (Err F.Poisoned) y) (sym (ap (λ (v : Contained). answer_of v c m x (found_container_1 c m x a.containment).1.containers) e) ∙ z) (bad poisoned_bytes)
 
-  pub edge_to_cyclical : {g : Fault} → r ≡ T.Cyclical → Cyclical k h (put_mid 13312 1668 w ys) g → EdgeTo k h n w (E.Bad g) (put_mid 13312 1668 w ys)
+  pub edge_to_cyclical : {g : Fault} → r ≡ T.Cyclical → Cyclical k h (put_mid 13312 1668 w ys) g → EdgeTo k h n w (Err g) (put_mid 13312 1668 w ys)
   unfolding answer_of with_containment
   edge_to_cyclical {g} e j = edge_by λ t₁ e₁ a m c x b low mem q z.
-      subst (λ (y : Maybe Spot (Ident Spot)). Edged x (E.Bad g) y) (sym (ap (λ (v : Contained). answer_of v c m x (found_container_1 c m x a.containment).1.containers) e) ∙ z) (bad (j.tells b low mem c q))
-
-pub edge_told : {k : Script} {h : Holder} {n : ℕ} {w w' : List ℕ} {f g : Fault} → f ≡ g → EdgeTo k h n w (E.Bad g) w' → EdgeTo k h n w (E.Bad f) w'
-edge_told {k} {h} {n} {w} {w'} e j = subst (λ (x : Fault). EdgeTo k h n w (E.Bad x) w') (sym e) j
+      subst (λ (y : Maybe Spot (Ident Spot)). Edged x (Err g) y) (sym (ap (λ (v : Contained). answer_of v c m x (found_container_1 c m x a.containment).1.containers) e) ∙ z) (bad (j.tells b low mem c q))

@@ -7,12 +7,12 @@ use native.Mathlib.Omega.{arith}
 use lib.Dec.{ltb, eqb}
 use lib.ListN.{length, get_or}
 use borrow.Author.Tests.{ltb-true}
+use Rattle.std.specs.Prelude.{Result, Ok}
+use Rattle.fields.specs.declared.refusal.Refusal.{Refusal}
 use Rattle.penne.specs.Reader.{Cur, Got, got, refused, ret, num, below, groups, last_group, moved, nothing}
 use Rattle.penne.specs.Tree.{Spot, Ident}
 use Rattle.penne.specs.Read.{name, ident}
 use Rattle.fields.specs.declared.field.Identifier.{Identifier}
-use Rattle.fields.specs.declared.field.Identified.{Identified}
-use Rattle.fields.specs.declared.field.Identified.TheVariants as I
 use Rattle.fields.specs.Answers.{cursor, identified_of, Identifies}
 use Rattle.answer.proofs.Spelling.{num_reading}
 use Rattle.walk.proofs.Leading.{never, same_value, same_cur, bind_got, such_got}
@@ -58,6 +58,5 @@ ident_low s c {i} e =
     let same : a.0 ≡ i.name = ap (λ (x : Ident Spot). x.name) (same_value q.3) in
     (low.0, subst (λ (n : ℕ). n < c.names) same low.1)
 
-pub identified_low : {s : List ℕ} {names at : ℕ} {r : Identified} {i : Identifier} {n : ℕ} → Identifies s names at r → r ≡ I.Is i n → (at < length s) × (i.name < names)
-unfolding identified_of
-identified_low {s} {names} {at} {i = i} {n} g e = ident_low s (cursor at names nothing) (sym (g.is nothing) ∙ ap (identified_of names at nothing) e)
+pub identified_low : {s : List ℕ} {names at : ℕ} {r : Result (Identifier × ℕ) Refusal} {i : Identifier} {n : ℕ} → Identifies s names at r → r ≡ Ok (i, n) → (at < length s) × (i.name < names)
+identified_low {s} {names} {at} {i = i} {n} g e = ident_low s (cursor at names nothing) (g.is nothing ∙ ap (identified_of names at nothing) e)

@@ -3,9 +3,11 @@ use mathlib.Core.Path.{◌≡◌, refl, sym, ap, subst, ◌∙◌}
 use mathlib.Core.Bool.{Bool, true, false}
 use mathlib.Core.List.{List, [], ◌∷◌}
 use mathlib.Core.Option.{Option, none, some}
-use Prim.Native.Nat.{ℕ, zero, suc, ◌-◌}
+use Prim.Native.Nat.{ℕ, zero, suc, ◌+◌, ◌-◌, ◌≤◌, ◌<◌}
 use native.Mathlib.Omega.{arith}
 use lib.ListN.{length}
+use Rattle.std.specs.Prelude.{Result, Ok, Err}
+use Rattle.fields.specs.declared.refusal.Refusal.{Refusal}
 use Rattle.penne.specs.Reader.{Counts, Cur, Got, got, refused, Reader, ◌>>=◌, ret, such, num, many, plus, fits, counted, counting, too_deep}
 use Rattle.penne.specs.Tree.{Spot, Ident, Poison, Maybe, ok, err}
 use Rattle.penne.specs.Read.{place, ident}
@@ -13,17 +15,11 @@ use Rattle.penne.specs.Write.{poison_b}
 use Rattle.penne.specs.Scopes.{Pass}
 pub use Rattle.penne.proofs.Leading.{never, same_value, same_cur, bind_got}
 use Rattle.penne.proofs.Leading.{leads_deep as nothing_deep}
-use Rattle.fields.specs.declared.number.Read.{Read}
-use Rattle.fields.specs.declared.number.Read.TheVariants.{Number, Refused}
 use Rattle.fields.specs.declared.field.Identifier.{Identifier}
-use Rattle.fields.specs.declared.field.Identified.{Identified}
-use Rattle.fields.specs.declared.field.Identified.TheVariants as I
 use Rattle.fields.specs.declared.counts.Counts as K
-use Rattle.fields.specs.declared.counts.Passed.{Passed}
-use Rattle.fields.specs.declared.counts.Passed.TheVariants as Q
-use Rattle.fields.specs.Answers.{cursor, number_of, end_of, forget, ident_of, identified_of, counts_of, passed_of, Gives, Reads, Ends, Skips, Identifies, Passes, two_places, operator}
-use Rattle.fields.proofs.Chain.{Node, places_same, operator_same}
-use Rattle.fields.proofs.Back.{forget_got}
+use Rattle.fields.specs.Answers.{row_of, cursor, number_of, end_of, ident_of, identified_of, counts_of, passed_of, Gives, Reads, Ends, Skips, Identifies, Passes, two_places, operator}
+use Rattle.fields.proofs.Chain.{Node, skips, ended, ends_number, ends_place, places_same, operator_same}
+use Rattle.fields.proofs.Back.{forget_got, forget_refused}
 use Rattle.walk.specs.declared.state.Walk.{Walk}
 use Rattle.walk.specs.declared.fault.Fault.{Fault}
 use Rattle.walk.specs.Walking.{here, Ground, Good, Stands, Is, onward, silently, Did, Leads, Input, Walks, fault_b, ok_b, Answers, fine, bad, Tried, Tries}
@@ -106,98 +102,103 @@ module _ {A : Type 0} {t : List ℕ} {P : A → Cur → Type 0} where
   leads_such m test n f {c} next = leads_bind _ f λ y e g. let z = such_got m test n t c g in next y e z.0 z.1
 
   -- a number was read, or none
-  module _ (f : ℕ → Reader A) {m : Reader ℕ} {names at : ℕ} {k : Counts} {m₁ : Read} (g : Reads m t names at m₁) where
-    pub leads_read : {v n : ℕ} → m₁ ≡ Number v n → Leads (f v) t (cursor n names k) P → Leads (m >>= f) t (cursor at names k) P
-    unfolding number_of
-    leads_read e next = leads_when m f (sym (g.is k) ∙ ap (number_of names k) e) next
+  module _ (f : ℕ → Reader A) {m : Reader ℕ} {names at : ℕ} {k : Counts} {m₁ : Result (ℕ × ℕ) Refusal} (g : Reads m t names at m₁) where
+    pub leads_read : {v n : ℕ} → m₁ ≡ Ok (v, n) → Leads (f v) t (cursor n names k) P → Leads (m >>= f) t (cursor at names k) P
+    leads_read e next = leads_when m f (g.is k ∙ ap (number_of names k) e) next
 
-    pub leads_unread : {i p : ℕ} → m₁ ≡ Refused i p → Leads (m >>= f) t (cursor at names k) P
-    unfolding number_of
-    leads_unread e = leads_never m f (sym (g.is k) ∙ ap (number_of names k) e)
+    pub leads_unread : {x : Refusal} → m₁ ≡ Err x → Leads (m >>= f) t (cursor at names k) P
+    leads_unread e = leads_never m f (g.is k ∙ ap (number_of names k) e)
 
   -- an identifier was read, or none
-  module _ (f : Ident Spot → Reader A) {names at : ℕ} {k : Counts} {r : Identified} (g : Identifies t names at r) where
-    pub leads_identified : {i : Identifier} {n : ℕ} → r ≡ I.Is i n → Leads (f (ident_of at i)) t (cursor n names k) P → Leads (ident >>= f) t (cursor at names k) P
-    unfolding identified_of
-    leads_identified e next = leads_when ident f (sym (g.is k) ∙ ap (identified_of names at k) e) next
+  module _ (f : Ident Spot → Reader A) {names at : ℕ} {k : Counts} {r : Result (Identifier × ℕ) Refusal} (g : Identifies t names at r) where
+    pub leads_identified : {i : Identifier} {n : ℕ} → r ≡ Ok (i, n) → Leads (f (ident_of at i)) t (cursor n names k) P → Leads (ident >>= f) t (cursor at names k) P
+    leads_identified e next = leads_when ident f (g.is k ∙ ap (identified_of names at k) e) next
 
-    pub leads_unidentified : {i p : ℕ} → r ≡ I.Not i p → Leads (ident >>= f) t (cursor at names k) P
-    unfolding identified_of
-    leads_unidentified e = leads_never ident f (sym (g.is k) ∙ ap (identified_of names at k) e)
-
-pub unend_go : {C : Type 0} (q : Got C) {i p : ℕ} → refused i p ≡ forget q → q ≡ refused i p
-unfolding forget
-unend_go (got y d) h = never h
-unend_go (refused j r) h = let a : _ = h in cc
+    pub leads_unidentified : {x : Refusal} → r ≡ Err x → Leads (ident >>= f) t (cursor at names k) P
+    leads_unidentified e = leads_never ident f (g.is k ∙ ap (identified_of names at k) e)
 
 module _ {A : Type 0} {t : List ℕ} {P : A → Cur → Type 0} {C : Type 0} (f : C → Reader A) {m : Reader C} {names at : ℕ} where
   -- a part was passed over, or refused
-  module _ {k : Counts} {m₁ : Read} (g : Ends m t names at m₁) where
-    pub leads_skip : {v n : ℕ} → m₁ ≡ Number v n → ((y : C) → m t (cursor at names k) ≡ got y (cursor n names k) → Leads (f y) t (cursor n names k) P) → Leads (m >>= f) t (cursor at names k) P
-    unfolding end_of
-    leads_skip e next = let z = forget_got (m t (cursor at names k)) (sym (ap (end_of names k) e) ∙ g.is k) in leads_when m f z.1 (next z.0 z.1)
+  module _ {k : Counts} {m₁ : Result ℕ Refusal} (g : Ends m t names at m₁) where
+    pub leads_skip : {n : ℕ} → m₁ ≡ Ok n → ((y : C) → m t (cursor at names k) ≡ got y (cursor n names k) → Leads (f y) t (cursor n names k) P) → Leads (m >>= f) t (cursor at names k) P
+    leads_skip e next = let z = forget_got (m t (cursor at names k)) _ (g.is k ∙ ap (end_of names k) e) in leads_when m f z.1 (next z.0 z.1)
 
-    pub leads_unskip : {i p : ℕ} → m₁ ≡ Refused i p → Leads (m >>= f) t (cursor at names k) P
-    unfolding end_of
-    leads_unskip e = leads_never m f (unend_go (m t (cursor at names k)) (sym (ap (end_of names k) e) ∙ g.is k))
+    pub leads_unskip : {x : Refusal} → m₁ ≡ Err x → Leads (m >>= f) t (cursor at names k) P
+    leads_unskip e = leads_never m f (forget_refused (m t (cursor at names k)) _ _ (g.is k ∙ ap (end_of names k) e))
 
   -- the same, where it may count
-  module _ {k : K.Counts} {r : Passed} (g : Passes m t names k at r) where
-    pub leads_pass : {n : ℕ} {k' : K.Counts} → r ≡ Q.To n k' → ((y : C) → m t (cursor at names (counts_of k)) ≡ got y (cursor n names (counts_of k')) → Leads (f y) t (cursor n names (counts_of k')) P) → Leads (m >>= f) t (cursor at names (counts_of k)) P
-    unfolding passed_of
-    leads_pass e next = let z = forget_got (m t (cursor at names (counts_of k))) (sym (ap (passed_of names) e) ∙ g.is) in leads_when m f z.1 (next z.0 z.1)
+  module _ {k : K.Counts} {r : Result (ℕ × K.Counts) Refusal} (g : Passes m t names k at r) where
+    pub leads_pass : {n : ℕ} {k' : K.Counts} → r ≡ Ok (n, k') → ((y : C) → m t (cursor at names (counts_of k)) ≡ got y (cursor n names (counts_of k')) → Leads (f y) t (cursor n names (counts_of k')) P) → Leads (m >>= f) t (cursor at names (counts_of k)) P
+    leads_pass e next = let z = forget_got (m t (cursor at names (counts_of k))) _ (g.is ∙ ap (passed_of names) e) in leads_when m f z.1 (next z.0 z.1)
 
-    pub leads_unpass : {i p : ℕ} → r ≡ Q.Refused i p → Leads (m >>= f) t (cursor at names (counts_of k)) P
-    unfolding passed_of
-    leads_unpass e = leads_never m f (unend_go (m t (cursor at names (counts_of k))) (sym (ap (passed_of names) e) ∙ g.is))
+    pub leads_unpass : {x : Refusal} → r ≡ Err x → Leads (m >>= f) t (cursor at names (counts_of k)) P
+    leads_unpass e = leads_never m f (forget_refused (m t (cursor at names (counts_of k))) _ _ (g.is ∙ ap (passed_of names) e))
 
 -- a part that is passed over and is the whole
-module _ {A : Type 0} {t : List ℕ} {P : A → Cur → Type 0} {m : Reader A} {names at : ℕ} {k : Counts} {m₁ : Read} (g : Ends m t names at m₁) where
-  pub leads_part : {v n : ℕ} → m₁ ≡ Number v n → ((y : A) → m t (cursor at names k) ≡ got y (cursor n names k) → P y (cursor n names k)) → Leads m t (cursor at names k) P
-  unfolding end_of
-  leads_part {v} {n} e next =
-      let z = forget_got (m t (cursor at names k)) (sym (ap (end_of names k) e) ∙ g.is k) in
+module _ {A : Type 0} {t : List ℕ} {P : A → Cur → Type 0} {m : Reader A} {names at : ℕ} {k : Counts} {m₁ : Result ℕ Refusal} (g : Ends m t names at m₁) where
+  pub leads_part : {n : ℕ} → m₁ ≡ Ok n → ((y : A) → m t (cursor at names k) ≡ got y (cursor n names k) → P y (cursor n names k)) → Leads m t (cursor at names k) P
+  leads_part {n} e next =
+      let z = forget_got (m t (cursor at names k)) _ (g.is k ∙ ap (end_of names k) e) in
       record { to = λ x d h. let q = sym z.1 ∙ h in subst (λ (c : Cur). P x c) (same_cur q) (subst (λ (y : A). P y (cursor n names k)) (same_value q) (next z.0 z.1)) }
 
-  pub leads_ended : {i p : ℕ} → m₁ ≡ Refused i p → Leads m t (cursor at names k) P
-  unfolding end_of
-  leads_ended e = leads_refused (unend_go (m t (cursor at names k)) (sym (ap (end_of names k) e) ∙ g.is k))
+  pub leads_ended : {x : Refusal} → m₁ ≡ Err x → Leads m t (cursor at names k) P
+  leads_ended e = leads_refused (forget_refused (m t (cursor at names k)) _ _ (g.is k ∙ ap (end_of names k) e))
+
+-- a part that is refused, where it may count
+pub leads_unpassed : {A : Type 0} {t : List ℕ} {P : A → Cur → Type 0} {m : Reader A} {names at : ℕ} {k : K.Counts} {x : Refusal} → Passes m t names k at (Err x) → Leads m t (cursor at names (counts_of k)) P
+leads_unpassed {t = t} {m = m} {names} {at} {k} g = leads_refused (forget_refused (m t (cursor at names (counts_of k))) _ _ g.is)
+
+-- a number that was read is a part that was passed over, and so is a place
+module _ {t : List ℕ} {names at : ℕ} {r : Result (ℕ × ℕ) Refusal} where
+  module _ {m : Reader ℕ} (g : Reads m t names at r) where
+    pub number_ok : {v n : ℕ} → r ≡ Ok (v, n) → Ends m t names at (Ok n)
+    number_ok e = subst (λ (x : Result ℕ Refusal). Ends m t names at x) (ap ended e) (ends_number r g)
+
+    pub number_err : {x : Refusal} → r ≡ Err x → Ends m t names at (Err x)
+    number_err e = subst (λ (x : Result ℕ Refusal). Ends m t names at x) (ap ended e) (ends_number r g)
+
+  module _ (g : Gives num t at r) where
+    pub place_ok : {v n : ℕ} → r ≡ Ok (v, n) → Ends place t names at (Ok n)
+    place_ok e = subst (λ (x : Result ℕ Refusal). Ends place t names at x) (ap ended e) (ends_place r g)
+
+    pub place_err : {x : Refusal} → r ≡ Err x → Ends place t names at (Err x)
+    place_err e = subst (λ (x : Result ℕ Refusal). Ends place t names at x) (ap ended e) (ends_place r g)
 
 -- PLACES
 
 module _ {A : Type 0} {t : List ℕ} {P : A → Cur → Type 0} where
   -- a place that stands by itself
-  module _ (f : Spot → Reader A) {names at : ℕ} {k : Counts} {m₁ : Read} (g : Gives num t at m₁) where
-    pub leads_place : {v n : ℕ} → m₁ ≡ Number v n → Leads (f (record { number = v; from = at })) t (cursor n names k) P → Leads (place >>= f) t (cursor at names k) P
-    unfolding place ◌>>=◌ ret number_of
+  module _ (f : Spot → Reader A) {names at : ℕ} {k : Counts} {m₁ : Result (ℕ × ℕ) Refusal} (g : Gives num t at m₁) where
+    pub leads_place : {v n : ℕ} → m₁ ≡ Ok (v, n) → Leads (f (record { number = v; from = at })) t (cursor n names k) P → Leads (place >>= f) t (cursor at names k) P
+    unfolding place ◌>>=◌ ret
     leads_place {v} {n} e next =
-        let z : num t (cursor at names k) ≡ got v (cursor n names k) = sym (g.is names k) ∙ ap (number_of names k) e in
+        let z : num t (cursor at names k) ≡ got v (cursor n names k) = g.is names k ∙ ap (number_of names k) e in
         let spot : ℕ → Spot = λ x. record { number = x; from = at } in
         leads_when place f (ap (after (λ x. ret (spot x)) t) z) next
 
-    pub leads_unplace : {i p : ℕ} → m₁ ≡ Refused i p → Leads (place >>= f) t (cursor at names k) P
-    unfolding place ◌>>=◌ ret number_of
-    leads_unplace {i} {p} e =
-        let z : num t (cursor at names k) ≡ refused i p = sym (g.is names k) ∙ ap (number_of names k) e in
+    pub leads_unplace : {x : Refusal} → m₁ ≡ Err x → Leads (place >>= f) t (cursor at names k) P
+    unfolding place ◌>>=◌ ret
+    leads_unplace {x} e =
+        let z : num t (cursor at names k) ≡ refused (row_of x.reason) x.place = g.is names k ∙ ap (number_of names k) e in
         let spot : ℕ → Spot = λ x. record { number = x; from = at } in
         leads_never place f (ap (after (λ x. ret (spot x)) t) z)
 
   -- "2p"
-  module _ (f : Spot → Spot → Reader A) {names at : ℕ} {k : Counts} {m₁ : Read} (g : Skips two_places t at m₁) where
-    pub leads_places : {v n : ℕ} → m₁ ≡ Number v n → ((p q : Spot) → two_places t (cursor at names k) ≡ got (p, q) (cursor n names k) → Leads (f p q) t (cursor n names k) P) → Leads (place >>= λ p. place >>= λ q. f p q) t (cursor at names k) P
-    leads_places e next = leads_same (places_same λ x. f x.0 x.1) (leads_skip _ (g.ends names) e λ x h. next x.0 x.1 h)
+  module _ (f : Spot → Spot → Reader A) {names at : ℕ} {k : Counts} {m₁ : Result ℕ Refusal} (g : Skips two_places t at m₁) where
+    pub leads_places : {n : ℕ} → m₁ ≡ Ok n → ((p q : Spot) → two_places t (cursor at names k) ≡ got (p, q) (cursor n names k) → Leads (f p q) t (cursor n names k) P) → Leads (place >>= λ p. place >>= λ q. f p q) t (cursor at names k) P
+    leads_places e next = leads_same (places_same λ x. f x.0 x.1) (leads_skip _ (skips _ g) e λ x h. next x.0 x.1 h)
 
-    pub leads_unplaces : {i p : ℕ} → m₁ ≡ Refused i p → Leads (place >>= λ p. place >>= λ q. f p q) t (cursor at names k) P
-    leads_unplaces e = leads_same (places_same λ x. f x.0 x.1) (leads_unskip _ (g.ends names) e)
+    pub leads_unplaces : {x : Refusal} → m₁ ≡ Err x → Leads (place >>= λ p. place >>= λ q. f p q) t (cursor at names k) P
+    leads_unplaces e = leads_same (places_same λ x. f x.0 x.1) (leads_unskip _ (skips _ g) e)
 
   -- "op, 2p"
-  module _ (f : ℕ → Spot → Spot → Reader A) {names at : ℕ} {k : Counts} {m₁ : Read} (g : Skips operator t at m₁) where
-    pub leads_operator : {v n : ℕ} → m₁ ≡ Number v n → ((op : ℕ) (p q : Spot) → operator t (cursor at names k) ≡ got (op, (p, q)) (cursor n names k) → Leads (f op p q) t (cursor n names k) P)
+  module _ (f : ℕ → Spot → Spot → Reader A) {names at : ℕ} {k : Counts} {m₁ : Result ℕ Refusal} (g : Skips operator t at m₁) where
+    pub leads_operator : {n : ℕ} → m₁ ≡ Ok n → ((op : ℕ) (p q : Spot) → operator t (cursor at names k) ≡ got (op, (p, q)) (cursor n names k) → Leads (f op p q) t (cursor n names k) P)
         → Leads (num >>= λ op. place >>= λ p. place >>= λ q. f op p q) t (cursor at names k) P
-    leads_operator e next = leads_same (operator_same λ op x. f op x.0 x.1) (leads_skip _ (g.ends names) e λ x h. next x.0 x.1.0 x.1.1 h)
+    leads_operator e next = leads_same (operator_same λ op x. f op x.0 x.1) (leads_skip _ (skips _ g) e λ x h. next x.0 x.1.0 x.1.1 h)
 
-    pub leads_unoperator : {i p : ℕ} → m₁ ≡ Refused i p → Leads (num >>= λ op. place >>= λ p. place >>= λ q. f op p q) t (cursor at names k) P
-    leads_unoperator e = leads_same (operator_same λ op x. f op x.0 x.1) (leads_unskip _ (g.ends names) e)
+    pub leads_unoperator : {x : Refusal} → m₁ ≡ Err x → Leads (num >>= λ op. place >>= λ p. place >>= λ q. f op p q) t (cursor at names k) P
+    leads_unoperator e = leads_same (operator_same λ op x. f op x.0 x.1) (leads_unskip _ (skips _ g) e)
 
 -- CALLS
 
@@ -234,6 +235,11 @@ is_same {s} {o} {l} {w} e i = record { when = λ z. subst (λ (g : Ground). Stan
 pub leads_end : {A : Type 0} {g : A → Ground} {t : List ℕ} {c : Cur} {r : Walk} {o l w : List ℕ} {b : Ground} (x : A) → c ≡ here r → Is r o l w b → (Good (g x) → b ≡ g x) → Leads (ret x) t c (λ y d. Did d (g y) r o l w)
 leads_end x h i e = leads_got x (record { cur = h; is = is_same e i })
 
+-- a walk over the last part
+pub leads_last : {A C : Type 0} {F : A → Ground} (k : C → A) {t : List ℕ} {m : Reader C} {g : C → Ground → Ground} {s₁ : Walk} {o₁ l₁ w₁ : List ℕ} {s₂ : Walk} {o₂ l₂ w₂ : List ℕ} {b : Ground}
+    → Walks t m g s₁ o₁ l₁ w₁ s₂ o₂ l₂ w₂ → Input t → Is s₁ o₁ l₁ w₁ b → ((x : C) → Good (F (k x)) → g x b ≡ F (k x)) → Leads (m >>= λ x. ret (k x)) t (here s₁) (λ y d. Did d (F y) s₂ o₂ l₂ w₂)
+leads_last k v h i e = leads_call _ v h i λ x _ i₁. leads_end (k x) refl i₁ (e x)
+
 -- LISTS
 
 -- what is done to a list is done to its items in turn
@@ -265,6 +271,17 @@ module _ {A : Type 0} {f : A → Ground → Ground} {fs : List A → Ground → 
   unfolding many
   going_done {s = s} {o} {l} {w} g z = g.on s o l w (rw z (walks λ h a i. leads_end [] refl i λ _. how.nil_is a))
 
+-- the same, where the items behind are counted
+pub counted_start : {A : Type 0} {t : List ℕ} {m : Reader A} {fs : List A → Ground → Ground} {n : ℕ} {s : Walk} {o l w : List ℕ} → Going t m fs n s o l w (n - 0) s o l w
+counted_start {t = t} {m} {fs} {n} {s} {o} {l} {w} = let q : n ≡ n - 0 = omega arith in subst (λ (x : ℕ). Going t m fs n s o l w x s o l w) q going_start
+
+module _ {A : Type 0} {f : A → Ground → Ground} {fs : List A → Ground → Ground} (how : Listed f fs) {t : List ℕ} {m : Reader A} {n : ℕ} {s₀ : Walk} {o₀ l₀ w₀ : List ℕ} {k : ℕ} {s : Walk} {o l w : List ℕ} (g : Going t m fs n s₀ o₀ l₀ w₀ (n - k) s o l w) where
+  pub counted_more : {s₁ : Walk} {o₁ l₁ w₁ : List ℕ} → k < n → Walks t m f s o l w s₁ o₁ l₁ w₁ → length o₁ ≡ length o → length l₁ ≡ length l → length w₁ ≡ length w → Going t m fs n s₀ o₀ l₀ w₀ (n - (k + 1)) s₁ o₁ l₁ w₁
+  counted_more {s₁} {o₁} {l₁} {w₁} b i x y z = let q : n - k - 1 ≡ n - (k + 1) = omega arith in subst (λ (r : ℕ). Going t m fs n s₀ o₀ l₀ w₀ r s₁ o₁ l₁ w₁) q (going_more how g (omega arith) i x y z)
+
+  pub counted_done : n ≤ k → Walks t (many m n) fs s₀ o₀ l₀ w₀ s o l w
+  counted_done b = going_done how g (omega arith)
+
 -- NODES
 
 -- a node too deep: nothing is promised
@@ -276,18 +293,18 @@ module _ {A : Type 0} {t : List ℕ} {P : A → Cur → Type 0} {H : Reader ℕ}
   node_deep zero z = leads_same how.zero_is (leads_deep H)
   node_deep (suc l) z = absurd (omega arith)
 
-  module _ {names at : ℕ} {k : Counts} {m₁ : Read} (g : Reads H t names at m₁) where
-    pub node_unread : (left : ℕ) {i p : ℕ} → m₁ ≡ Refused i p → Leads (N left) t (cursor at names k) P
+  module _ {names at : ℕ} {k : Counts} {m₁ : Result (ℕ × ℕ) Refusal} (g : Reads H t names at m₁) where
+    pub node_unread : (left : ℕ) {x : Refusal} → m₁ ≡ Err x → Leads (N left) t (cursor at names k) P
     node_unread zero e = leads_same how.zero_is (leads_deep H)
     node_unread (suc l) e = leads_same (how.suc_is l) (leads_unread _ g e)
 
-    pub node_in : (left : ℕ) {v n : ℕ} → (left ≡ 0 → ⊥) → m₁ ≡ Number v n → Leads (K (left - 1) v) t (cursor n names k) P → Leads (N left) t (cursor at names k) P
+    pub node_in : (left : ℕ) {v n : ℕ} → (left ≡ 0 → ⊥) → m₁ ≡ Ok (v, n) → Leads (K (left - 1) v) t (cursor n names k) P → Leads (N left) t (cursor at names k) P
     node_in zero z e h = absurd (z refl)
     node_in (suc l) {v} {n} z e h =
         let q : suc l - 1 ≡ l = omega arith in
         leads_same (how.suc_is l) (leads_read _ g e (subst (λ (j : ℕ). Leads (K j v) t (cursor n names k) P) q h))
 
-    pub node_arm : (left : ℕ) {v n j : ℕ} → (left ≡ 0 → ⊥) → m₁ ≡ Number v n → v ≡ j → Leads (K (left - 1) j) t (cursor n names k) P → Leads (N left) t (cursor at names k) P
+    pub node_arm : (left : ℕ) {v n j : ℕ} → (left ≡ 0 → ⊥) → m₁ ≡ Ok (v, n) → v ≡ j → Leads (K (left - 1) j) t (cursor n names k) P → Leads (N left) t (cursor at names k) P
     node_arm left {n = n} z e f h = node_in left z e (subst (λ (x : ℕ). Leads (K (left - 1) x) t (cursor n names k) P) (sym f) h)
 
 -- COUNTING

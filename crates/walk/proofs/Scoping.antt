@@ -55,12 +55,12 @@ module _ {s r : Walk} where
   }
 
   -- pop_scope
-  pub closed_is : {outer : Walk} {w : List ℕ} {sc : Scope} {ys : List ℕ} → S.Closes s.tables.scope outer.tables.scope (scopes_in w) sc ys → Takes s (record { scope = sc; next_id = s.tables.next_id; constant = s.tables.constant }) r
+  pub closed_is : {outer : Scope} {w : List ℕ} {sc : Scope} {ys : List ℕ} → S.Closes s.tables.scope outer (scopes_in w) sc ys → Takes s (record { scope = sc; next_id = s.tables.next_id; constant = s.tables.constant }) r
       → Closes s outer w r (put_mid 2048 11264 w ys)
   unfolding with_stack
   closed_is {outer} {w} {sc} {ys} p m = record {
     cur = ap here m.is;
-    is = λ {o} {l} {a} {o₀} {l₀} {w₀} {b} i₀ i g le. subst (λ (x : Walk). Is x o l (put_mid 2048 11264 w ys) (closing b a)) (sym m.is) (record {
+    is = λ {o} {l} {a} {q} {o₀} {l₀} {w₀} {b} e i₀ i g le. subst (λ (x : Walk). Is x o l (put_mid 2048 11264 w ys) (closing b a)) (sym m.is) (record {
       when = λ z.
           let j = i.when (record { few = z.few; fit = z.fit }) in
           let j₀ = i₀.when (le (record { few = z.few; fit = z.fit })) in
@@ -71,7 +71,7 @@ module _ {s r : Walk} where
             script = j.script;
             put = j.put;
             skip = j.skip;
-            tables = scopes_changed t (closing b a).st (p.kept.long ∙ scopes_room w t.long) (mirrors_close t.scopes b.st.variable_stack g.more p g.constants g.locals t₀.scopes.holds.counted t₀.scopes.holds.begins) refl refl (sym g.constants) t.next (omega arith) refl
+            tables = scopes_changed t (closing b a).st (p.kept.long ∙ scopes_room w t.long) (mirrors_close t.scopes b.st.variable_stack g.more (rw (sym e) at p) g.constants g.locals t₀.scopes.holds.counted t₀.scopes.holds.begins) refl refl (sym g.constants) t.next (omega arith) refl
                 (omega (arith, ap length g.locals, length-append b.st.variable_stack.locals g.more)) (early_close t.early b.st.variable_stack g.more g.locals)
                 (λ d e. omega (arith, ap length g.locals, length-append b.st.variable_stack.locals g.more));
             marks = marks_kept (lower_scopes w ys t.long p.kept) j.marks;

@@ -6,6 +6,8 @@ use Prim.Native.Nat.{ℕ, zero, suc, ◌+◌, ◌≤◌, ◌<◌}
 use native.Mathlib.Omega.{arith}
 use lib.ListN.{get_or}
 use borrow.Rule.Slice.PartMut.{put_mid}
+use Rattle.std.specs.Prelude as Rust
+use Rattle.std.specs.Prelude.{Ok, Err, Some, None}
 use Rattle.penne.specs.Tree.{Spot, Ident, poison, Maybe, ok, err}
 use Rattle.penne.specs.Find.{first_named, resolved}
 use Rattle.penne.specs.Read.{poison_fields}
@@ -22,25 +24,19 @@ use Rattle.answer.specs.Out.{Put, Said}
 use Rattle.answer.proofs.Said.{said_put}
 use Rattle.answer.proofs.Fields.{poison_bytes}
 use Rattle.scopes.specs.declared.scope.Local.{Local}
-use Rattle.scopes.specs.declared.scope.Found as L
-use Rattle.scopes.specs.declared.scope.Found.TheVariants as F
 use Rattle.scopes.specs.declared.pruning.Fate.{Fate}
 use Rattle.scopes.specs.declared.pruning.Fate.TheVariants as K
 use Rattle.scopes.specs.Jumps as J
 use Rattle.scopes.specs.Table.{Nth, Label, Tells}
 use Rattle.scopes.proofs.Lists.{nth_low}
 use Rattle.scopes.proofs.Analyzing.{mirrors_poison, mirrors_skip, named_constant, named_local, found_none, found_at, told_standing, told_poisoned, told_pruned}
-use Rattle.containers.specs.declared.containers.Found.{Found}
-use Rattle.containers.specs.declared.containers.Found.TheVariants.{At, Nothing}
 use Rattle.containers.specs.Table.{at, id_at}
 use Rattle.containers.specs.Calls.{found_in}
 use Rattle.penne.specs.Containers.{id_of}
 use Rattle.walk.specs.declared.state.Walk.{Walk}
 use Rattle.walk.specs.declared.fault.Fault.{Fault}
-use Rattle.walk.specs.declared.names.Used.{Used}
-use Rattle.walk.specs.declared.names.Used.TheVariants as U
-use Rattle.walk.specs.declared.names.Named.TheVariants as N
-use Rattle.walk.specs.Walking.{with_listed, Lists, here, scopes_in, Tables, Good, Stands, silently, fault_b, Made, made_as, made_not, walk_of, used_of, Uses, UsesListed, undefined_fault, poisoned_fault}
+use Rattle.walk.specs.declared.fault.Fault.TheVariants as F
+use Rattle.walk.specs.Walking.{with_listed, Lists, here, scopes_in, Tables, Good, Stands, silently, fault_b, Made, made_as, made_not, Uses, UsesListed, Used}
 use Rattle.walk.specs.Calls.{FindsIn, FindsLocal, LocalOf, Became, UsesRow, use_row, UsesLocal, ListsSkip, skipped_fault, MayBeSkipped, PoisonsLocal}
 use Rattle.walk.proofs.Early.{early_skip, early_poison}
 use Rattle.walk.proofs.Tables.{part_word, scopes_changed, state_changed, marks_kept, lower_scopes}
@@ -50,14 +46,8 @@ use Rattle.walk.proofs.Using.{Keeps, as_ids, uses_by, uses_ret, found_constant, 
 use Rattle.walk.proofs.Edging.{whose_none}
 
 -- a use that is not listed, among those that are
-module _ {s : Walk} {i : Identifier} {from : ℕ} {l w w' : List ℕ} {u : Used} (k : Uses use_variable s i w u w') where
-  pub listed_as : {j : Identifier} → u ≡ U.As j → UsesListed use_variable s i from l w (N.As s j) l w'
-  unfolding walk_of used_of
-  listed_as e = record { does = λ h o a z. let b = k.does from o l a z in record { cur = refl; is = b.is; made = λ g. subst (λ (v : Used). Made from v (use_variable (ident_of from i) a.st).0) e (b.made g) } }
-
-  pub listed_not : {f : Fault} → u ≡ U.Not f → UsesListed use_variable s i from l w (N.Not s f) l w'
-  unfolding walk_of used_of
-  listed_not e = record { does = λ h o a z. let b = k.does from o l a z in record { cur = refl; is = b.is; made = λ g. subst (λ (v : Used). Made from v (use_variable (ident_of from i) a.st).0) e (b.made g) } }
+pub unlisted : {s : Walk} {i : Identifier} {from : ℕ} {l w w' : List ℕ} {u : Used} → Uses use_variable s i w u w' → UsesListed use_variable s i from l w s u l w'
+unlisted {from = from} {l} k = record { does = λ h o a z. let b = k.does from o l a z in record { cur = refl; is = b.is; made = b.made } }
 
 -- A USE TAKES NO ID
 
@@ -87,7 +77,7 @@ variable_by x j a e q = ap (λ (o : Option (Ident Spot)). use_variable_at x o a)
 
 -- A CONSTANT: nothing ever becomes of it
 
-pub use_the_variable : {s : Walk} {i : Identifier} {w : List ℕ} {r : Found} {row : ℕ} {u : Used} {w' : List ℕ} → FindsIn s.script 0 i.name w r → r ≡ At row → UsesRow s i row w u w' → Uses use_variable s i w u w'
+pub use_the_variable : {s : Walk} {i : Identifier} {w : List ℕ} {r : Rust.Option ℕ} {row : ℕ} {u : Used} {w' : List ℕ} → FindsIn s.script 0 i.name w r → r ≡ Some row → UsesRow s i row w u w' → Uses use_variable s i w u w'
 unfolding found_in use_row use_variable_by id_at id_of
 use_the_variable {s} {i} {row = row} f e k = uses_by use_variable variable_keeps (use_row row) (λ from a t.
     let j = (at a.containment.containers row).identifier in
@@ -95,8 +85,8 @@ use_the_variable {s} {i} {row = row} f e k = uses_by use_variable variable_keeps
     (t.early.untouched j.id (t.early.containers row (f.below row e)))) (k.does (f.below row e))
 
 -- no constant
-pub variable_local : {s : Walk} {i : Identifier} {from : ℕ} {l w l' w' : List ℕ} {r : Found} {u : _} → FindsIn s.script 0 i.name w r → r ≡ Nothing → UsesLocal s i from l w u l' w' → UsesListed use_variable s i from l w u l' w'
-variable_local {s} {i} {w = w} f e k = k.does (subst (λ (x : Found). FindsIn s.script 0 i.name w x) e f)
+pub variable_local : {s : Walk} {i : Identifier} {from : ℕ} {l w l' w' : List ℕ} {r : Rust.Option ℕ} {r' : Walk} {u : Used} → FindsIn s.script 0 i.name w r → r ≡ None → UsesLocal s i from l w r' u l' w' → UsesListed use_variable s i from l w r' u l' w'
+variable_local {s} {i} {w = w} f e k = k.does (subst (λ (x : Rust.Option ℕ). FindsIn s.script 0 i.name w x) e f)
 
 -- THE LIST: one record more is two words more
 
@@ -107,7 +97,7 @@ words_more (r ∷ rs) p q = ap (λ (l : List ℕ). r.0.from ∷ r.1.from ∷ l) 
 
 -- kind 13
 skipped_bytes : (i : Identifier) (from : ℕ) (j : Ident Spot) (c : Pruning Spot)
-    → fault_b (record { kind = 13; name = i.name; other = c.label.name; place = i.place; second = j.place.number; third = c.location_of_goto.number; fourth = c.label.place.number }) ≡ poison_b (may_be_skipped (ident_of from i) j c)
+    → fault_b (F.VariableDeclarationMayBeSkipped i.name c.label.name i.place j.place.number c.location_of_goto.number c.label.place.number) ≡ poison_b (may_be_skipped (ident_of from i) j c)
 unfolding may_be_skipped poison_names poison_places poison_fields
 skipped_bytes i from j c = poison_bytes 13 (i.name ∷ c.label.name ∷ []) ((ident_of from i).place ∷ j.place ∷ c.location_of_goto ∷ c.label.place ∷ []) [] [] refl refl
 
@@ -123,38 +113,38 @@ record Its (n k : ℕ) (w : List ℕ) (d : Local) (b : Fate) (a : Analyzer Spot)
   id : d.id ≡ local.id
   fated : Tells (scopes_in w) b (fate local.id a.prunings)
 
-module _ (s : Walk) (i : Identifier) {w : List ℕ} {r : L.Found} (g : FindsLocal s i.name w r) where
+module _ (s : Walk) (i : Identifier) {w : List ℕ} {r : Rust.Option ℕ} (g : FindsLocal s i.name w r) where
   -- no variable of the name
-  pub use_no_variable : {from : ℕ} {l : List ℕ} → r ≡ F.Nothing → UsesLocal s i from l w (N.Not s (undefined_fault 9 i)) l w
+  pub use_no_variable : {from : ℕ} {l : List ℕ} → r ≡ None → UsesLocal s i from l w s (Err (F.UndefinedVariable i.name i.place)) l w
   unfolding undefined
   use_no_variable e = record {
-    does = λ f. listed_not (uses_ret use_variable variable_keeps λ from a t. (
+    does = λ f. unlisted (uses_ret use_variable variable_keeps λ from a t. (
       undefined 9 (ident_of from i),
       variable_none (ident_of from i) a (named_local a i.name (sym (no_constant s i.name f refl a t)) ∙ found_none ((g.searches t.long).finds t.scopes.holds) e),
       made_not (undefined_bytes 9 i from one_name.0 their_places.0),
-    )) refl;
+    ));
   }
 
-  module _ {k : ℕ} (e : r ≡ F.At k) {d : Local} (q : LocalOf k w d) {b : Fate} (h : Became k w b) where
-    its : FindsIn s.script 0 i.name w Nothing → (a : Analyzer Spot) → Tables s.tables s.script s.counts w a → Its i.name k w d b a
+  module _ {k : ℕ} (e : r ≡ Some k) {d : Local} (q : LocalOf k w d) {b : Fate} (h : Became k w b) where
+    its : FindsIn s.script 0 i.name w None → (a : Analyzer Spot) → Tables s.tables s.script s.counts w a → Its i.name k w d b a
     its f a t =
         let (j, n, z) = found_at ((g.searches t.long).finds t.scopes.holds) e in
         let st = (q.tells t.long).stands t.scopes.holds n in
         record { local = j; row = n; named = named_local a i.name (sym (no_constant s i.name f refl a t)) ∙ z; place = st.place; from = st.from; id = st.id; fated = (h.tells t.long).tells t.scopes.holds n }
 
     -- it stands: as there is a local, it is in no constant's value
-    pub use_standing : {from : ℕ} {l : List ℕ} → b ≡ K.Standing → UsesLocal s i from l w (N.As s (record { name = i.name; place = i.place; id = d.id; authority = 0 })) l w
+    pub use_standing : {from : ℕ} {l : List ℕ} → b ≡ K.Standing → UsesLocal s i from l w s (Ok (record { name = i.name; place = i.place; id = d.id; authority = 0 })) l w
     unfolding use_variable_by use_as use_containee ret resolved
     use_standing z = record {
-      does = λ f. listed_as (uses_ret use_variable variable_keeps λ from a t.
+      does = λ f. unlisted (uses_ret use_variable variable_keeps λ from a t.
           let x = ident_of from i in
           let j = its f a t in
           let low = nth_low j.row in
           let no : s.tables.constant < 1 = outside s.tables.constant t.bare low in (
             ok (resolved x j.local.id 0),
             variable_by x j.local a j.named (told_standing j.fated z) ∙ ap (λ (o : Option (Ident Spot)). use_containee (resolved x j.local.id 0) o a) (whose_none t.whose no),
-            subst (λ (n : ℕ). Made from (U.As (record { name = i.name; place = i.place; id = d.id; authority = 0 })) (ok (resolved x n 0))) j.id made_as,
-          )) refl;
+            subst (λ (n : ℕ). Made from (Ok (record { name = i.name; place = i.place; id = d.id; authority = 0 })) (ok (resolved x n 0))) j.id made_as,
+          ));
     }
       where
         outside : (c : ℕ) {n m : ℕ} → (1 ≤ c → n ≡ 0) → m < n → c < 1
@@ -162,8 +152,8 @@ module _ (s : Walk) (i : Identifier) {w : List ℕ} {r : L.Found} (g : FindsLoca
         outside (suc c) b h = absurd (let y = b (omega arith) in omega arith)
 
     -- it was poisoned
-    pub use_poisoned : {from : ℕ} {l : List ℕ} {r' : Walk} {l' : List ℕ} → b ≡ K.Poisoned → ListsSkip s from d l r' l' → UsesLocal s i from l w (N.Not r' poisoned_fault) l' w
-    unfolding walk_of used_of use_variable_by with_prunings list_skip
+    pub use_poisoned : {from : ℕ} {l : List ℕ} {r' : Walk} {l' : List ℕ} → b ≡ K.Poisoned → ListsSkip s from d l r' l' → UsesLocal s i from l w r' (Err F.Poisoned) l' w
+    unfolding use_variable_by with_prunings list_skip
     use_poisoned {from} {l} {r'} {l'} z k = record {
       does = λ f. record {
         does = λ far o a y.
@@ -186,7 +176,7 @@ module _ (s : Walk) (i : Identifier) {w : List ℕ} {r : L.Found} (g : FindsLoca
                       marks = c.marks;
                     }));
               };
-              made = λ v. subst (λ (m : Maybe Spot (Ident Spot) × Analyzer Spot). Made from (U.Not poisoned_fault) m.0) (sym (does (y.when (good v)).tables)) (made_not poisoned_bytes);
+              made = λ v. subst (λ (m : Maybe Spot (Ident Spot) × Analyzer Spot). Made from (Err F.Poisoned) m.0) (sym (does (y.when (good v)).tables)) (made_not poisoned_bytes);
             };
       };
     }
@@ -195,8 +185,8 @@ module _ (s : Walk) (i : Identifier) {w : List ℕ} {r : L.Found} (g : FindsLoca
         more far x j a {slots} e u = subst (λ (xs : List ℕ). Said k.to l' xs slots) (ap (λ (n : ℕ). words (offsets a.prunings.skips) ++ (from ∷ n ∷ [])) e ∙ words_more a.prunings.skips (ident_of from i).place j.place) (said_put u (k.put far))
 
     -- it was pruned: it is poisoned from now on
-    pub use_pruned : {from : ℕ} {l : List ℕ} {r' : Walk} {l' w' : List ℕ} {label goto : ℕ} {v : Fault} → b ≡ K.Pruned label goto → MayBeSkipped w i d label goto v → PoisonsLocal k w w' → ListsSkip s from d l r' l' → UsesLocal s i from l w (N.Not r' v) l' w'
-    unfolding walk_of used_of use_variable_by with_prunings list_skip poison_variable
+    pub use_pruned : {from : ℕ} {l : List ℕ} {r' : Walk} {l' w' : List ℕ} {label goto : ℕ} {v : Fault} → b ≡ K.Pruned label goto → MayBeSkipped w i d label goto v → PoisonsLocal k w w' → ListsSkip s from d l r' l' → UsesLocal s i from l w r' (Err v) l' w'
+    unfolding use_variable_by with_prunings list_skip poison_variable
     use_pruned {from} {l} {r'} {l'} {w'} {label} {goto} {v} z m p k = record {
       does = λ f. record {
         does = λ far o a y.
@@ -229,7 +219,7 @@ module _ (s : Walk) (i : Identifier) {w : List ℕ} {r : L.Found} (g : FindsLoca
                   let t = (y.when (good g)).tables in
                   let j = its f a.st t in
                   let c = does t in
-                  subst (λ (n : Maybe Spot (Ident Spot) × Analyzer Spot). Made from (U.Not v) n.0) (sym c.1) (made_not (the_bytes c.0 j.local c.2 c.3 j.place));
+                  subst (λ (n : Maybe Spot (Ident Spot) × Analyzer Spot). Made from (Err v) n.0) (sym c.1) (made_not (the_bytes c.0 j.local c.2 c.3 j.place));
             };
       };
     }
@@ -239,12 +229,12 @@ module _ (s : Walk) (i : Identifier) {w : List ℕ} {r : L.Found} (g : FindsLoca
         more far j a {slots} e u = subst (λ (xs : List ℕ). Said k.to l' xs slots) (ap (λ (n : ℕ). words (offsets a.prunings.skips) ++ (from ∷ n ∷ [])) e ∙ words_more a.prunings.skips (ident_of from i).place j.place) (said_put u (k.put far))
 
         the_fault : (c : Pruning Spot) (j : Ident Spot) → Label (scopes_in w) label c.label → goto ≡ c.location_of_goto.number → d.place ≡ j.place.number
-            → skipped_fault w i d label goto ≡ record { kind = 13; name = i.name; other = c.label.name; place = i.place; second = j.place.number; third = c.location_of_goto.number; fourth = c.label.place.number }
+            → skipped_fault w i d label goto ≡ F.VariableDeclarationMayBeSkipped i.name c.label.name i.place j.place.number c.location_of_goto.number c.label.place.number
         the_fault c j lb gc pc =
             let low = lb.low in
             let n : get_or w (2048 + label) 0 ≡ c.label.name = ap (λ (x : ℕ). get_or w x 0) (let q : 2048 + label ≡ 2048 + (0 + label) = omega arith in q) ∙ sym (part_word 2048 11264 w (0 + label) (omega arith)) ∙ lb.name in
             let u : get_or w (3072 + label) 0 ≡ c.label.place.number = ap (λ (x : ℕ). get_or w x 0) (let q : 3072 + label ≡ 2048 + (1024 + label) = omega arith in q) ∙ sym (part_word 2048 11264 w (1024 + label) (omega arith)) ∙ lb.place in
-            λ t. record { kind = 13; name = i.name; other = n t; place = i.place; second = pc t; third = gc t; fourth = u t }
+            λ t. F.VariableDeclarationMayBeSkipped i.name (n t) i.place (pc t) (gc t) (u t)
 
         the_bytes : (c : Pruning Spot) (j : Ident Spot) → Label (scopes_in w) label c.label → goto ≡ c.location_of_goto.number → d.place ≡ j.place.number → fault_b v ≡ poison_b (may_be_skipped (ident_of from i) j c)
         the_bytes c j lb gc pc = ap fault_b (m.is lb.low ∙ the_fault c j lb gc pc) ∙ skipped_bytes i from j c
@@ -257,17 +247,14 @@ listed_is {v = v} p m = record { to = v; is = λ h. m; put = λ h. p }
 pub poisoned_is : {k : ℕ} {w ys : List ℕ} → J.Poisons k (scopes_in w) ys → PoisonsLocal k w (put_mid 2048 11264 w ys)
 poisoned_is {ys = ys} p = record { part = ys; is = λ h. refl; poisons = λ h. p }
 
-pub skipped_is : {w : List ℕ} {i : Identifier} {d : Local} {label place x y : ℕ} (m n : ℕ) → x ≡ get_or w m 0 → m ≡ 2048 + label → y ≡ get_or w n 0 → n ≡ 3072 + label
-    → MayBeSkipped w i d label place (record { kind = 13; name = i.name; other = x; place = i.place; second = d.place; third = place; fourth = y })
-skipped_is {w} {i} {d} {label} {place} m n e p f q = record {
-  is = λ h. let u = e ∙ ap (λ (j : ℕ). get_or w j 0) p in let v = f ∙ ap (λ (j : ℕ). get_or w j 0) q in λ t. record { kind = 13; name = i.name; other = u t; place = i.place; second = d.place; third = place; fourth = v t };
+pub skipped_is : {w : List ℕ} {i : Identifier} {d : Local} {label goto x y : ℕ} (m n : ℕ) → x ≡ get_or w m 0 → m ≡ 2048 + label → y ≡ get_or w n 0 → n ≡ 3072 + label
+    → MayBeSkipped w i d label goto (F.VariableDeclarationMayBeSkipped i.name x i.place d.place goto y)
+skipped_is {w} {i} {d} {label} {goto} m n e p f q = record {
+  is = λ h. let u = e ∙ ap (λ (j : ℕ). get_or w j 0) p in let v = f ∙ ap (λ (j : ℕ). get_or w j 0) q in λ t. F.VariableDeclarationMayBeSkipped i.name (u t) i.place d.place goto (v t);
 }
 
 -- A RESULT UNDER ANOTHER NAME
 
 module _ {s : Walk} {i : Identifier} {from : ℕ} {l w : List ℕ} {r : Walk} {l' w' : List ℕ} where
-  pub local_told : {f g : Fault} → f ≡ g → UsesLocal s i from l w (N.Not r g) l' w' → UsesLocal s i from l w (N.Not r f) l' w'
-  local_told e k = subst (λ (x : Fault). UsesLocal s i from l w (N.Not r x) l' w') (sym e) k
-
-  pub local_made : {j k : Identifier} → j ≡ k → UsesLocal s i from l w (N.As r k) l' w' → UsesLocal s i from l w (N.As r j) l' w'
-  local_made e k = subst (λ (x : Identifier). UsesLocal s i from l w (N.As r x) l' w') (sym e) k
+  pub local_made : {j k : Identifier} → j ≡ k → UsesLocal s i from l w r (Ok k) l' w' → UsesLocal s i from l w r (Ok j) l' w'
+  local_made e k = subst (λ (x : Identifier). UsesLocal s i from l w r (Ok x) l' w') (sym e) k

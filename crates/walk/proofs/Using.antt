@@ -5,6 +5,8 @@ use mathlib.Core.List.{List, [], ◌∷◌}
 use mathlib.Core.Option.{Option, none, some}
 use Prim.Native.Nat.{ℕ, zero, suc}
 use native.Mathlib.Omega.{arith}
+use Rattle.std.specs.Prelude.{Ok, Err, Some, None}
+use Rattle.std.specs.Prelude as Rust
 use Rattle.penne.specs.Tree.{Spot, Ident, Poison, poison, Maybe, ok, err}
 use Rattle.penne.specs.Write.{poison_b}
 use Rattle.penne.specs.Find.{first_named, resolved}
@@ -15,18 +17,13 @@ use Rattle.penne.specs.Variables.{use_called}
 use Rattle.fields.specs.declared.field.Identifier.{Identifier}
 use Rattle.fields.specs.Answers.{ident_of}
 use Rattle.containers.specs.declared.containers.Declared.{Declared}
-use Rattle.containers.specs.declared.containers.Found.{Found}
-use Rattle.containers.specs.declared.containers.Found.TheVariants.{At, Nothing}
 use Rattle.containers.specs.Table.{kind_of}
 use Rattle.containers.specs.Calls.{found_in, of_kind}
 use Rattle.containers.specs.Functions.{function_at, function_in}
 use Rattle.walk.specs.declared.state.Walk.{Walk}
 use Rattle.walk.specs.declared.fault.Fault.{Fault}
-use Rattle.walk.specs.declared.names.Used.{Used}
-use Rattle.walk.specs.declared.names.Used.TheVariants as U
-use Rattle.walk.specs.declared.names.Place.{Place}
-use Rattle.walk.specs.declared.names.Place.TheVariants as P
-use Rattle.walk.specs.Walking.{Tables, Ground, Good, Stands, silently, Made, made_as, made_not, Uses, fault_b, undefined_fault, duplicate_fault}
+use Rattle.walk.specs.declared.fault.Fault.TheVariants as F
+use Rattle.walk.specs.Walking.{Tables, Ground, Good, Stands, silently, Made, made_as, made_not, Uses, fault_b, Used}
 use Rattle.walk.specs.Calls.{FindsIn, FindsFunctionIn, FunctionAt, Placed, placed, nowhere, PlaceOfLocal, NoConstant, use_row, UsesRow}
 use Rattle.walk.proofs.Faults.{undefined_bytes, duplicate_bytes, one_name, their_places}
 
@@ -110,17 +107,17 @@ struct_by : (x : Ident Spot) (a : Analyzer Spot) {o : Option (Ident Spot)} → o
 unfolding use_struct
 struct_by x a e = ap (λ (o : Option (Ident Spot)). use_struct_at x o a) (sym e)
 
-module _ (s : Walk) (i : Identifier) {w : List ℕ} {r : Found} (f : FindsIn s.script 3 i.name w r) where
+module _ (s : Walk) (i : Identifier) {w : List ℕ} {r : Rust.Option ℕ} (f : FindsIn s.script 3 i.name w r) where
   found_structure : (a : Analyzer Spot) → Tables s.tables s.script s.counts w a → found_in a.containment.containers r ≡ first_named i.name (structures a.containment.containers)
   unfolding of_kind kind_of
   found_structure a t = (f.finds t.long).finds a.containment t.containers true refl
 
-  pub use_no_struct : r ≡ Nothing → Uses use_struct s i w (U.Not (undefined_fault 11 i)) w
+  pub use_no_struct : r ≡ None → Uses use_struct s i w (Err (F.UndefinedStructure i.name i.place)) w
   unfolding found_in use_struct_at undefined ret
   use_no_struct e = uses_ret use_struct struct_keeps λ from a t.
       (undefined 11 (ident_of from i), struct_by (ident_of from i) a (ap (found_in a.containment.containers) (sym e) ∙ found_structure a t), made_not (undefined_bytes 11 i from one_name.2 their_places.2))
 
-  pub use_the_struct : {row : ℕ} {u : Used} {w' : List ℕ} → r ≡ At row → UsesRow s i row w u w' → Uses use_struct s i w u w'
+  pub use_the_struct : {row : ℕ} {u : Used} {w' : List ℕ} → r ≡ Some row → UsesRow s i row w u w' → Uses use_struct s i w u w'
   unfolding found_in use_struct_at use_row
   use_the_struct {row} e k = uses_by use_struct struct_keeps (use_row row) (λ from a t. struct_by (ident_of from i) a (ap (found_in a.containment.containers) (sym e) ∙ found_structure a t)) (k.does (f.below row e))
 
@@ -130,16 +127,16 @@ constant_by : (x : Ident Spot) (a : Analyzer Spot) {o q : Option (Ident Spot)} �
 unfolding use_constant
 constant_by x a {o} {q} e d = ap (λ (y : Option (Ident Spot)). use_constant_at x (first_named x.name a.variable_stack.constants) y a) (sym d) ∙ ap (λ (y : Option (Ident Spot)). use_constant_at x y q a) (sym e)
 
-pub found_constant : (s : Walk) (n : ℕ) {w : List ℕ} {r : Found} → FindsIn s.script 0 n w r → (a : Analyzer Spot) → Tables s.tables s.script s.counts w a → found_in a.containment.containers r ≡ first_named n a.variable_stack.constants
+pub found_constant : (s : Walk) (n : ℕ) {w : List ℕ} {r : Rust.Option ℕ} → FindsIn s.script 0 n w r → (a : Analyzer Spot) → Tables s.tables s.script s.counts w a → found_in a.containment.containers r ≡ first_named n a.variable_stack.constants
 unfolding of_kind kind_of
 found_constant s n f a t = (f.finds t.long).finds a.containment t.containers false refl ∙ ap (first_named n) (sym t.layer)
 
-pub no_constant : (s : Walk) (n : ℕ) {w : List ℕ} {r : Found} → FindsIn s.script 0 n w r → r ≡ Nothing → (a : Analyzer Spot) → Tables s.tables s.script s.counts w a → none ≡ first_named n a.variable_stack.constants
+pub no_constant : (s : Walk) (n : ℕ) {w : List ℕ} {r : Rust.Option ℕ} → FindsIn s.script 0 n w r → r ≡ None → (a : Analyzer Spot) → Tables s.tables s.script s.counts w a → none ≡ first_named n a.variable_stack.constants
 unfolding found_in
 no_constant s n f e a t = ap (found_in a.containment.containers) (sym e) ∙ found_constant s n f a t
 
-module _ (s : Walk) (i : Identifier) {w : List ℕ} {r : Found} (f : FindsIn s.script 0 i.name w r) where
-  pub use_the_constant : {row : ℕ} {u : Used} {w' : List ℕ} → r ≡ At row → UsesRow s i row w u w' → Uses use_constant s i w u w'
+module _ (s : Walk) (i : Identifier) {w : List ℕ} {r : Rust.Option ℕ} (f : FindsIn s.script 0 i.name w r) where
+  pub use_the_constant : {row : ℕ} {u : Used} {w' : List ℕ} → r ≡ Some row → UsesRow s i row w u w' → Uses use_constant s i w u w'
   unfolding found_in use_constant_at use_row
   use_the_constant {row} e k = uses_by use_constant constant_keeps (use_row row) (λ from a t. constant_by (ident_of from i) a (ap (found_in a.containment.containers) (sym e) ∙ found_constant s i.name f a t) refl) (k.does (f.below row e))
 
@@ -149,16 +146,16 @@ function_by : (x : Ident Spot) (a : Analyzer Spot) {o : Option (Ident Spot)} →
 unfolding use_function
 function_by x a e = ap (λ (o : Option (Ident Spot)). (use_function_at x o, a)) (sym e)
 
-module _ (s : Walk) (i : Identifier) {w : List ℕ} {r : Found} (f : FindsFunctionIn s.script i.name w r) where
+module _ (s : Walk) (i : Identifier) {w : List ℕ} {r : Rust.Option ℕ} (f : FindsFunctionIn s.script i.name w r) where
   found_function : (a : Analyzer Spot) → Tables s.tables s.script s.counts w a → function_in a.function_list r ≡ first_named i.name a.function_list
   found_function a t = (f.finds t.long).finds a.function_list t.functions
 
-  pub use_no_function : r ≡ Nothing → Uses use_function s i w (U.Not (undefined_fault 10 i)) w
+  pub use_no_function : r ≡ None → Uses use_function s i w (Err (F.UndefinedFunction i.name i.place)) w
   unfolding function_in use_function_at undefined
   use_no_function e = uses_ret use_function function_keeps λ from a t.
       (undefined 10 (ident_of from i), function_by (ident_of from i) a (ap (function_in a.function_list) (sym e) ∙ found_function a t), made_not (undefined_bytes 10 i from one_name.1 their_places.1))
 
-  pub use_the_function : {row : ℕ} {d : Declared} → r ≡ At row → FunctionAt row w d → Uses use_function s i w (U.As (record { name = i.name; place = i.place; id = d.id; authority = 0 })) w
+  pub use_the_function : {row : ℕ} {d : Declared} → r ≡ Some row → FunctionAt row w d → Uses use_function s i w (Ok (record { name = i.name; place = i.place; id = d.id; authority = 0 })) w
   unfolding function_in use_function_at resolved
   use_the_function {row} {d} e g = uses_ret use_function function_keeps λ from a t.
       let x = ident_of from i in
@@ -166,24 +163,24 @@ module _ (s : Walk) (i : Identifier) {w : List ℕ} {r : Found} (f : FindsFuncti
       let same : d.id ≡ j.id = ((g.tells t.long).tells a.function_list s.script.functions t.functions (f.below row e)).id in (
         ok (resolved x j.id 0),
         function_by x a (ap (function_in a.function_list) (sym e) ∙ found_function a t),
-        subst (λ (n : ℕ). Made from (U.As (record { name = i.name; place = i.place; id = d.id; authority = 0 })) (ok (resolved x n 0))) same made_as,
+        subst (λ (n : ℕ). Made from (Ok (record { name = i.name; place = i.place; id = d.id; authority = 0 })) (ok (resolved x n 0))) same made_as,
       )
 
 -- NO CONSTANT
 
-pub placed_at : {r : Place} {o : Option (Ident Spot)} {p : ℕ} → Placed r o → r ≡ P.At p → (j : Ident Spot) × (o ≡ some j) × (p ≡ j.place.number)
+pub placed_at : {r : Rust.Option ℕ} {o : Option (Ident Spot)} {p : ℕ} → Placed r o → r ≡ Some p → (j : Ident Spot) × (o ≡ some j) × (p ≡ j.place.number)
 placed_at {p = p} (placed {p = q} {j = j} h) e = let z : q ≡ p = cc in (j, refl, sym z ∙ h)
 placed_at nowhere e = absurd (let z : ◌≡◌ {A = ℕ} 0 1 = cc in omega arith)
 
-pub placed_nowhere : {r : Place} {o : Option (Ident Spot)} → Placed r o → r ≡ P.Nowhere → o ≡ none
+pub placed_nowhere : {r : Rust.Option ℕ} {o : Option (Ident Spot)} → Placed r o → r ≡ None → o ≡ none
 placed_nowhere (placed h) e = absurd (let z : ◌≡◌ {A = ℕ} 0 1 = cc in omega arith)
 placed_nowhere nowhere e = refl
 
-no_constant_by : {s : Walk} {i : Identifier} {w : List ℕ} {u : Used} → (FindsIn s.script 0 i.name w Nothing → Uses use_constant s i w u w) → NoConstant s i w u
+no_constant_by : {s : Walk} {i : Identifier} {w : List ℕ} {f : Fault} → (FindsIn s.script 0 i.name w None → Uses use_constant s i w (Err f) w) → NoConstant s i w f
 no_constant_by k = record { does = k }
 
-module _ (s : Walk) (i : Identifier) {w : List ℕ} {pl : Place} (g : PlaceOfLocal s i.name w pl) where
-  pub use_local_constant : {p : ℕ} → pl ≡ P.At p → NoConstant s i w (U.Not (duplicate_fault 12 i p))
+module _ (s : Walk) (i : Identifier) {w : List ℕ} {pl : Rust.Option ℕ} (g : PlaceOfLocal s i.name w pl) where
+  pub use_local_constant : {p : ℕ} → pl ≡ Some p → NoConstant s i w (F.NotACompileTimeConstant i.name i.place p)
   unfolding use_constant_at ret
   use_local_constant {p} q = no_constant_by λ f. uses_ret use_constant constant_keeps λ from a t.
       let x = ident_of from i in
@@ -193,19 +190,19 @@ module _ (s : Walk) (i : Identifier) {w : List ℕ} {pl : Place} (g : PlaceOfLoc
         made_not (duplicate_bytes 12 i from p z.0.place z.2 one_name.3 their_places.3),
       )
 
-  pub use_no_constant : pl ≡ P.Nowhere → NoConstant s i w (U.Not (undefined_fault 9 i))
+  pub use_no_constant : pl ≡ None → NoConstant s i w (F.UndefinedVariable i.name i.place)
   unfolding use_constant_at undefined ret
   use_no_constant q = no_constant_by λ f. uses_ret use_constant constant_keeps λ from a t.
       let x = ident_of from i in
       (undefined 9 x, constant_by x a (no_constant s i.name f refl a t) (sym (placed_nowhere (g.tells t) q)), made_not (undefined_bytes 9 i from one_name.0 their_places.0))
 
 -- no constant was found
-pub constant_not : {s : Walk} {i : Identifier} {w : List ℕ} {r : Found} {u : Used} → FindsIn s.script 0 i.name w r → r ≡ Nothing → NoConstant s i w u → Uses use_constant s i w u w
-constant_not {s} {i} {w} f e k = k.does (subst (λ (x : Found). FindsIn s.script 0 i.name w x) e f)
+pub constant_not : {s : Walk} {i : Identifier} {w : List ℕ} {r : Rust.Option ℕ} {f : Fault} → FindsIn s.script 0 i.name w r → r ≡ None → NoConstant s i w f → Uses use_constant s i w (Err f) w
+constant_not {s} {i} {w} f e k = k.does (subst (λ (x : Rust.Option ℕ). FindsIn s.script 0 i.name w x) e f)
 
 -- CALLS
 
-pub called_builtin : {s : Walk} {i : Identifier} {w : List ℕ} (b : ℕ) → (b ≡ 0 → ⊥) → Uses (λ x. use_called x b) s i w (U.As i) w
+pub called_builtin : {s : Walk} {i : Identifier} {w : List ℕ} (b : ℕ) → (b ≡ 0 → ⊥) → Uses (λ x. use_called x b) s i w (Ok i) w
 unfolding use_called ret
 called_builtin zero h = absurd (h refl)
 called_builtin {i = i} (suc b) h = uses_ret (λ x. use_called x (suc b)) (record { ids = λ x a. refl }) λ from a t. (ok (ident_of from i), refl, made_as)
@@ -218,24 +215,18 @@ called_function (suc b) e k = absurd (omega arith)
 -- A RESULT UNDER ANOTHER NAME
 
 module _ {s : Walk} {i : Identifier} {w w' : List ℕ} where
-  pub told_not : {p : User} {f g : Fault} → f ≡ g → Uses p s i w (U.Not g) w' → Uses p s i w (U.Not f) w'
-  told_not {p} e k = subst (λ (x : Fault). Uses p s i w (U.Not x) w') (sym e) k
+  pub told_as : {p : User} {j k : Identifier} → j ≡ k → Uses p s i w (Ok k) w' → Uses p s i w (Ok j) w'
+  told_as {p} e k = subst (λ (x : Identifier). Uses p s i w (Ok x) w') (sym e) k
 
-  pub told_as : {p : User} {j k : Identifier} → j ≡ k → Uses p s i w (U.As k) w' → Uses p s i w (U.As j) w'
-  told_as {p} e k = subst (λ (x : Identifier). Uses p s i w (U.As x) w') (sym e) k
-
-  pub row_as : {row : ℕ} {j k : Identifier} → j ≡ k → UsesRow s i row w (U.As k) w' → UsesRow s i row w (U.As j) w'
-  row_as {row} e k = subst (λ (x : Identifier). UsesRow s i row w (U.As x) w') (sym e) k
-
-pub not_told : {s : Walk} {i : Identifier} {w : List ℕ} {f g : Fault} → f ≡ g → NoConstant s i w (U.Not g) → NoConstant s i w (U.Not f)
-not_told {s} {i} {w} e k = subst (λ (x : Fault). NoConstant s i w (U.Not x)) (sym e) k
+  pub row_as : {row : ℕ} {j k : Identifier} → j ≡ k → UsesRow s i row w (Ok k) w' → UsesRow s i row w (Ok j) w'
+  row_as {row} e k = subst (λ (x : Identifier). UsesRow s i row w (Ok x) w') (sym e) k
 
 -- WHAT A LOOKED UP NAME IS
 
-pub made_used : {from : ℕ} {u : Used} {y : Maybe Spot (Ident Spot)} {j : Identifier} → Made from u y → u ≡ U.As j → y ≡ ok (ident_of from j)
+pub made_used : {from : ℕ} {u : Used} {y : Maybe Spot (Ident Spot)} {j : Identifier} → Made from u y → u ≡ Ok j → y ≡ ok (ident_of from j)
 made_used {from} {j = j} (made_as {j = k}) e = let z : k ≡ j = cc in ap (λ (v : Identifier). ok (ident_of from v)) z
 made_used (made_not q) e = absurd (let z : ◌≡◌ {A = ℕ} 0 1 = cc in omega arith)
 
-pub made_refused : {from : ℕ} {u : Used} {y : Maybe Spot (Ident Spot)} {f : Fault} → Made from u y → u ≡ U.Not f → (z : Poison Spot) × (y ≡ err z) × (fault_b f ≡ poison_b z)
+pub made_refused : {from : ℕ} {u : Used} {y : Maybe Spot (Ident Spot)} {f : Fault} → Made from u y → u ≡ Err f → (z : Poison Spot) × (y ≡ err z) × (fault_b f ≡ poison_b z)
 made_refused made_as e = absurd (let z : ◌≡◌ {A = ℕ} 0 1 = cc in omega arith)
 made_refused {f = f} (made_not {f = g} {z = z} q) e = let d : g ≡ f = cc in (z, refl, ap fault_b (sym d) ∙ q)

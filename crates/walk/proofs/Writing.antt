@@ -1,5 +1,5 @@
 -- What the walk stands for after a write, a move, and where what was written is dropped.
-use mathlib.Core.Path.{◌≡◌, sym, ap, subst, ◌∙◌}
+use mathlib.Core.Path.{◌≡◌, refl, sym, ap, subst, ◌∙◌}
 use mathlib.Core.Bool.{true}
 use mathlib.Core.List.{List, ◌++◌}
 use Prim.Native.Nat.{ℕ, ◌≤◌}
@@ -15,7 +15,7 @@ use Rattle.answer.specs.declared.wrote.Wrote.{Wrote}
 use Rattle.answer.specs.Out.{Put, Said}
 use Rattle.answer.proofs.Said.{said_put, said_back, said_instead}
 use Rattle.walk.specs.declared.state.Walk.{Walk}
-use Rattle.walk.specs.Walking.{Moves, Writes, Counted, here, Rest, Ground, Marks, Is, say}
+use Rattle.walk.specs.Walking.{moved_to, with_wrote, Moves, Writes, Counted, here, Rest, Ground, Marks, Is, say}
 
 -- WHERE IT READS AFTERWARDS
 
@@ -47,6 +47,13 @@ module _ {s : Walk} {o l w : List ℕ} {a : Ground} (i : Is s o l w a) where
   pub wrote : {xs : List ℕ} {v : Wrote} {o' : List ℕ} {r : Walk} → Put s.wrote xs o v o' → Writes s v r → Is r o' l w (say xs a)
   wrote {xs} {v} {o'} p m =
       subst (λ (x : Walk). Is x o' l w (say xs a)) (sym m.is) (record { when = λ z. let j = i.when (record { few = z.few; fit = z.fit }) in record { script = j.script; put = said_put j.put p; skip = j.skip; tables = j.tables; marks = j.marks } })
+
+  -- in place: it reads on at n; xs was written and it reads on at n
+  pub moved_on : {n : ℕ} → Is (moved_to s n) o l w a
+  moved_on = moved (record { is = refl })
+
+  pub wrote_on : {xs : List ℕ} {v : Wrote} {o' : List ℕ} {n : ℕ} → Put s.wrote xs o v o' → Is (moved_to (with_wrote s v) n) o' l w (say xs a)
+  wrote_on p = let j = wrote p (record { is = refl }) in record { when = λ z. let k = j.when z in record { script = k.script; put = k.put; skip = k.skip; tables = k.tables; marks = k.marks } }
 
   -- so much is counted: the tables have room for it, the marks are those of m
   pub counted : {k : K.Counts} {r : Walk} (m : Rest) → s.counts.entries ≤ k.entries → m.script ≡ a.rest.script → m.room ≡ a.rest.room → m.slots ≡ a.rest.slots → (m.fit ≡ true → a.rest.fit ≡ true)

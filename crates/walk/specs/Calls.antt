@@ -1,5 +1,6 @@
 -- What the calls inside `names` and `edges` promise. Where the work words are too few they say nothing.
-use Rattle.std.specs.Prelude.{ℕ, ◌+◌, ◌≤◌, ◌<◌, ◌≡◌, List, [], ◌∷◌, Bool, true, false, length, get_or}
+use Rattle.std.specs.Prelude.{ℕ, ◌+◌, ◌≤◌, ◌<◌, ◌≡◌, List, [], ◌∷◌, Bool, true, false, length, get_or, Result, Ok, Err, Some, None}
+use Rattle.std.specs.Prelude as Rust
 use Rattle.std.proofs.Math.Option.{Option, none, some}
 use borrow.Rule.Slice.PartMut.{put_mid}
 use Rattle.penne.specs.Tree.{Spot, Ident, Poison, Maybe, ok, err, Ty, plain, array, array_with_named_length, arraylike, struct, word, unresolved, nameless, pointer, view}
@@ -16,13 +17,10 @@ use Rattle.fields.specs.Answers.{cursor, ident_of, poison_names, poison_places}
 use Rattle.answer.specs.declared.wrote.Wrote.{Wrote}
 use Rattle.answer.specs.Out.{Put}
 use Rattle.scopes.specs.declared.scope.Local.{Local}
-use Rattle.scopes.specs.declared.scope.Found as L
 use Rattle.scopes.specs.declared.pruning.Fate.{Fate}
 use Rattle.scopes.specs.Calls as S
 use Rattle.scopes.specs.Jumps as J
 use Rattle.containers.specs.declared.containers.Declared.{Declared}
-use Rattle.containers.specs.declared.containers.Found.{Found}
-use Rattle.containers.specs.declared.containers.Found.TheVariants.{At, Nothing}
 use Rattle.containers.specs.Table.{at, id_at, kind_of}
 use Rattle.containers.specs.Calls as C
 use Rattle.containers.specs.Functions as F
@@ -30,18 +28,13 @@ use Rattle.walk.specs.declared.state.Script.{Script}
 use Rattle.walk.specs.declared.state.Tables as W
 use Rattle.walk.specs.declared.state.Walk.{Walk}
 use Rattle.walk.specs.declared.fault.Fault.{Fault}
-use Rattle.walk.specs.declared.names.Used.{Used}
-use Rattle.walk.specs.declared.names.Named.{Named}
-use Rattle.walk.specs.declared.names.Place.{Place}
-use Rattle.walk.specs.declared.names.Place.TheVariants as P
+use Rattle.walk.specs.declared.fault.Fault.TheVariants.{VariableDeclarationMayBeSkipped}
 use Rattle.walk.specs.declared.edges.Holder.{Holder}
-use Rattle.walk.specs.declared.edges.Edge.{Edge}
-use Rattle.walk.specs.declared.edges.Edge.TheVariants as E
-use Rattle.walk.specs.Walking.{Lists, here, Lower, scopes_in, containers_in, functions_in, Tables, Ground, Good, Is, silently, fault_b, Uses, UsesListed, Declares}
+use Rattle.walk.specs.Walking.{Lists, here, Lower, scopes_in, containers_in, functions_in, Tables, Ground, Good, Is, silently, fault_b, Used, Uses, UsesListed, Declares}
 
 -- find_in: the search among the constants (kind 0) or the structures (3)
-pub record FindsIn (k : Script) (kind name : ℕ) (w : List ℕ) (r : Found) : Type 0 where
-  pub below : (i : ℕ) → r ≡ At i → i < k.containers
+pub record FindsIn (k : Script) (kind name : ℕ) (w : List ℕ) (r : Rust.Option ℕ) : Type 0 where
+  pub below : (i : ℕ) → r ≡ Some i → i < k.containers
   pub finds : 16384 ≤ length w → C.Finds k.containers kind name (containers_in w) r
 
 -- container_at
@@ -49,19 +42,19 @@ pub record ContainerAt (row : ℕ) (w : List ℕ) (d : Declared) : Type 0 where
   pub tells : 16384 ≤ length w → C.Tells row (containers_in w) d
 
 -- find_function_in, function_at
-pub record FindsFunctionIn (k : Script) (name : ℕ) (w : List ℕ) (r : Found) : Type 0 where
-  pub below : (i : ℕ) → r ≡ At i → i < k.functions
+pub record FindsFunctionIn (k : Script) (name : ℕ) (w : List ℕ) (r : Rust.Option ℕ) : Type 0 where
+  pub below : (i : ℕ) → r ≡ Some i → i < k.functions
   pub finds : 16384 ≤ length w → F.FindsFunction k.functions name (functions_in w) r
 
 pub record FunctionAt (row : ℕ) (w : List ℕ) (d : Declared) : Type 0 where
   pub tells : 16384 ≤ length w → F.TellsFunction row (functions_in w) d
 
 -- constant_in: the first constant that the container in that row contains
-pub record ConstantIn (k : Script) (row : ℕ) (w : List ℕ) (r : Found) : Type 0 where
+pub record ConstantIn (k : Script) (row : ℕ) (w : List ℕ) (r : Rust.Option ℕ) : Type 0 where
   pub finds : 16384 ≤ length w → C.FindsConstant k.containers row (containers_in w) r
 
 -- find_local, local_of, what_became
-pub record FindsLocal (s : Walk) (name : ℕ) (w : List ℕ) (r : L.Found) : Type 0 where
+pub record FindsLocal (s : Walk) (name : ℕ) (w : List ℕ) (r : Rust.Option ℕ) : Type 0 where
   pub searches : 16384 ≤ length w → S.Searches s.tables.scope (scopes_in w) name r
 
 pub record LocalOf (k : ℕ) (w : List ℕ) (r : Local) : Type 0 where
@@ -71,23 +64,23 @@ pub record Became (k : ℕ) (w : List ℕ) (r : Fate) : Type 0 where
   pub tells : 16384 ≤ length w → J.Becomes (scopes_in w) k r
 
 -- place_of_variable, place_of_local: where what the search found was declared
-pub data Placed : Place → Option (Ident Spot) → Type 0 where
-  placed : {p : ℕ} {j : Ident Spot} → p ≡ j.place.number → Placed (P.At p) (some j)
-  nowhere : Placed P.Nowhere none
+pub data Placed : Rust.Option ℕ → Option (Ident Spot) → Type 0 where
+  placed : {p : ℕ} {j : Ident Spot} → p ≡ j.place.number → Placed (Some p) (some j)
+  nowhere : Placed None none
 
-pub record PlaceOfVariable (s : Walk) (name : ℕ) (w : List ℕ) (r : Place) : Type 0 where
+pub record PlaceOfVariable (s : Walk) (name : ℕ) (w : List ℕ) (r : Rust.Option ℕ) : Type 0 where
   pub tells : {a : Analyzer Spot} → Tables s.tables s.script s.counts w a → Placed r (first_named name (variables a))
 
-pub record PlaceOfLocal (s : Walk) (name : ℕ) (w : List ℕ) (r : Place) : Type 0 where
+pub record PlaceOfLocal (s : Walk) (name : ℕ) (w : List ℕ) (r : Rust.Option ℕ) : Type 0 where
   pub tells : {a : Analyzer Spot} → Tables s.tables s.script s.counts w a → Placed r (first_named name a.variable_stack.locals)
 
 -- no_constant: no constant has the name
-pub record NoConstant (s : Walk) (i : Identifier) (w : List ℕ) (r : Used) : Type 0 where
-  pub does : FindsIn s.script 0 i.name w Nothing → Uses use_constant s i w r w
+pub record NoConstant (s : Walk) (i : Identifier) (w : List ℕ) (f : Fault) : Type 0 where
+  pub does : FindsIn s.script 0 i.name w None → Uses use_constant s i w (Err f) w
 
 -- use_local: no constant has the name
-pub record UsesLocal (s : Walk) (i : Identifier) (from : ℕ) (l w : List ℕ) (r : Named) (l' w' : List ℕ) : Type 0 where
-  pub does : FindsIn s.script 0 i.name w Nothing → UsesListed use_variable s i from l w r l' w'
+pub record UsesLocal (s : Walk) (i : Identifier) (from : ℕ) (l w : List ℕ) (r : Walk) (u : Used) (l' w' : List ℕ) : Type 0 where
+  pub does : FindsIn s.script 0 i.name w None → UsesListed use_variable s i from l w r u l' w'
 
 -- list_skip: two words more, where the use stands and where what it finds was declared
 pub record ListsSkip (s : Walk) (from : ℕ) (d : Local) (l : List ℕ) (r : Walk) (l' : List ℕ) : Type 0 where
@@ -96,11 +89,11 @@ pub record ListsSkip (s : Walk) (from : ℕ) (d : Local) (l : List ℕ) (r : Wal
   pub put : from ≤ 65535 → Put s.listed (from ∷ d.from ∷ []) l to l'
 
 -- may_be_skipped: name and place of the label stand in the table
-abbrev pub skipped_fault : (w : List ℕ) → Identifier → Local → (label place : ℕ) → Fault
-skipped_fault w i d label place = record { kind = 13; name = i.name; other = get_or w (2048 + label) 0; place = i.place; second = d.place; third = place; fourth = get_or w (3072 + label) 0 }
+abbrev pub skipped_fault : (w : List ℕ) → Identifier → Local → (label goto : ℕ) → Fault
+skipped_fault w i d label goto = VariableDeclarationMayBeSkipped i.name (get_or w (2048 + label) 0) i.place d.place goto (get_or w (3072 + label) 0)
 
-pub record MayBeSkipped (w : List ℕ) (i : Identifier) (d : Local) (label place : ℕ) (f : Fault) : Type 0 where
-  pub is : label < 1024 → f ≡ skipped_fault w i d label place
+pub record MayBeSkipped (w : List ℕ) (i : Identifier) (d : Local) (label goto : ℕ) (f : Fault) : Type 0 where
+  pub is : label < 1024 → f ≡ skipped_fault w i d label goto
 
 -- poison_local
 pub record PoisonsLocal (k : ℕ) (w w' : List ℕ) : Type 0 where
@@ -124,13 +117,16 @@ pub record UsesRow (s : Walk) (i : Identifier) (row : ℕ) (w : List ℕ) (r : U
 
 -- the member that a holder is about
 pub data Member (h : Holder) : Option (Ident Spot) → Type 0 where
-  no_member : h.is_member ≡ false → Member h none
-  the_member : {m : Ident Spot} → h.is_member ≡ true → h.member ≡ m.place.number → Member h (some m)
+  no_member : h.member ≡ None → Member h none
+  the_member : {m : Ident Spot} → h.member ≡ Some m.place.number → Member h (some m)
 
 -- what becomes of a containee, or of the type that names it
+abbrev pub Edge : Type 0
+Edge = Result (Unit {0}) Fault
+
 pub data Edged {A : Type 0} (x : A) : Edge → Maybe Spot A → Type 0 where
-  fine : Edged x E.Fine (ok x)
-  bad : {f : Fault} {z : Poison Spot} → fault_b f ≡ poison_b z → Edged x (E.Bad f) (err z)
+  fine : Edged x (Ok tt) (ok x)
+  bad : {f : Fault} {z : Poison Spot} → fault_b f ≡ poison_b z → Edged x (Err f) (err z)
 
 -- edge_to: the edge from the holder c to x, which stands in row n
 pub record EdgeTo (k : Script) (h : Holder) (n : ℕ) (w : List ℕ) (r : Edge) (w' : List ℕ) : Type 0 where
@@ -188,5 +184,5 @@ pub record FoundIn (t : List ℕ) (m : Reader (Ty Spot)) (k : Script) (h : Holde
       → Tables n k e w' (with_containment a (found_container c o x' a.containment).1) × Lower w w' × Edged x' r (found_container c o x' a.containment).0
 
 -- declare_variable (kind 4), declare_parameter (5), declare_member (6)
-pub record DeclaresBy (kind : ℕ) (s : Walk) (i : Identifier) (from : ℕ) (w : List ℕ) (r : Named) (w' : List ℕ) : Type 0 where
-  pub does : 1 ≡ get_or poison_names kind 0 → 2 ≡ get_or poison_places kind 0 → Declares (declare_variable kind) s i from w r w'
+pub record DeclaresBy (kind : ℕ) (s : Walk) (i : Identifier) (from : ℕ) (w : List ℕ) (r : Walk) (u : Used) (w' : List ℕ) : Type 0 where
+  pub does : 1 ≡ get_or poison_names kind 0 → 2 ≡ get_or poison_places kind 0 → Declares (declare_variable kind) s i from w r u w'

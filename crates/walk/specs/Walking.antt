@@ -1,5 +1,5 @@
 -- What the walk of the second pass stands for, and what its functions promise: whatever the decoder reads here, the walk does to it what the pass does, and writes what the encoder gives.
-use Rattle.std.specs.Prelude.{ℕ, ◌+◌, ◌≤◌, ◌<◌, ◌≡◌, List, [], ◌∷◌, ◌++◌, Bool, true, length, get_or, take, drop, eqb}
+use Rattle.std.specs.Prelude.{ℕ, ◌+◌, ◌≤◌, ◌<◌, ◌≡◌, List, [], ◌∷◌, ◌++◌, Bool, true, length, get_or, take, drop, eqb, Result, Ok, Err}
 use Rattle.std.proofs.Math.Option.{Option, none, some}
 use Rattle.penne.specs.Reader.{Cur, got, Reader}
 use Rattle.penne.specs.Tree.{Spot, Ident, Poison, Maybe, ok, err}
@@ -16,6 +16,7 @@ use Rattle.fields.specs.Answers.{cursor, counts_of, ident_of}
 use Rattle.answer.specs.declared.wrote.Wrote.{Wrote}
 use Rattle.answer.specs.Out.{Said}
 use Rattle.answer.specs.Parts.{identifier_b, poisoned_b}
+use Rattle.scopes.specs.declared.scope.Scope.{Scope}
 use Rattle.scopes.specs.Table.{Nth}
 use Rattle.scopes.specs.Mirror.{Mirrors}
 use Rattle.containers.specs.Table.{at, id_at, Holds}
@@ -25,10 +26,7 @@ use Rattle.walk.specs.declared.state.Script.{Script}
 use Rattle.walk.specs.declared.state.Tables as W
 use Rattle.walk.specs.declared.state.Walk.{Walk}
 use Rattle.walk.specs.declared.fault.Fault.{Fault}
-use Rattle.walk.specs.declared.names.Used.{Used}
-use Rattle.walk.specs.declared.names.Used.TheVariants as U
-use Rattle.walk.specs.declared.names.Named.{Named}
-use Rattle.walk.specs.declared.names.Named.TheVariants as N
+use Rattle.walk.specs.declared.fault.Fault.TheVariants as F
 
 -- THE CODE'S STATE, CHANGED IN ONE FIELD
 
@@ -47,7 +45,7 @@ with_counts s k = record { at = s.at; wrote = s.wrote; listed = s.listed; counts
 abbrev pub with_tables : Walk → W.Tables → Walk
 with_tables s t = record { at = s.at; wrote = s.wrote; listed = s.listed; counts = s.counts; tables = t; script = s.script }
 
--- what `moved`, `wrote`, `listed`, `counted` and `with` answer
+-- what such a change leaves
 pub record Moves (s : Walk) (n : ℕ) (r : Walk) : Type 0 where
   pub is : r ≡ moved_to s n
 
@@ -189,9 +187,20 @@ pub record Walks {A : Type 0} (t : List ℕ) (m : Reader A) (f : A → Ground �
 
 -- WHAT MAY BE REFUSED
 
--- a poison of the code's, as it is written
+-- a poison of the code's, as it is written: its kind, names and places
 abbrev pub fault_b : Fault → List ℕ
-fault_b f = poisoned_b f.kind (f.name ∷ f.other ∷ []) (f.place ∷ f.second ∷ f.third ∷ f.fourth ∷ [])
+fault_b F.Poisoned = poisoned_b 0 (0 ∷ 0 ∷ []) (0 ∷ 0 ∷ 0 ∷ 0 ∷ [])
+fault_b (F.DuplicateDeclarationLabel n p q) = poisoned_b 1 (n ∷ 0 ∷ []) (q ∷ p ∷ 0 ∷ 0 ∷ [])
+fault_b (F.UndefinedLabel n p) = poisoned_b 2 (n ∷ 0 ∷ []) (p ∷ 0 ∷ 0 ∷ 0 ∷ [])
+fault_b (F.DuplicateDeclaration k n p q) = poisoned_b k (n ∷ 0 ∷ []) (p ∷ q ∷ 0 ∷ 0 ∷ [])
+fault_b (F.UndefinedVariable n p) = poisoned_b 9 (n ∷ 0 ∷ []) (p ∷ 0 ∷ 0 ∷ 0 ∷ [])
+fault_b (F.UndefinedFunction n p) = poisoned_b 10 (n ∷ 0 ∷ []) (p ∷ 0 ∷ 0 ∷ 0 ∷ [])
+fault_b (F.UndefinedStructure n p) = poisoned_b 11 (n ∷ 0 ∷ []) (p ∷ 0 ∷ 0 ∷ 0 ∷ [])
+fault_b (F.NotACompileTimeConstant n p q) = poisoned_b 12 (n ∷ 0 ∷ []) (p ∷ q ∷ 0 ∷ 0 ∷ [])
+fault_b (F.VariableDeclarationMayBeSkipped n m p q r s) = poisoned_b 13 (n ∷ m ∷ []) (p ∷ q ∷ r ∷ s ∷ [])
+fault_b (F.CyclicalConstant n p) = poisoned_b 14 (n ∷ 0 ∷ []) (p ∷ 0 ∷ 0 ∷ 0 ∷ [])
+fault_b (F.CyclicalStructure n p q) = poisoned_b 15 (n ∷ 0 ∷ []) (p ∷ q ∷ 0 ∷ 0 ∷ [])
+fault_b (F.CyclicalStructureWithConstant n m p q r) = poisoned_b 16 (n ∷ m ∷ []) (p ∷ q ∷ r ∷ 0 ∷ [])
 
 -- of what is refused nothing is written
 unfoldable pub ok_b : {A : Type 0} → (A → List ℕ) → Maybe Spot A → List ℕ
@@ -212,10 +221,14 @@ pub record Tried {A B : Type 0} (p : A → Pass Spot (Maybe Spot B)) (e : B → 
 pub record Tries {A B : Type 0} (t : List ℕ) (m : Reader A) (p : A → Pass Spot (Maybe Spot B)) (e : B → List ℕ) (s : Walk) (o l w : List ℕ) (r : Walk) (f : Option Fault) (o' l' w' : List ℕ) : Type 0 where
   pub does : Input t → (a : Ground) → Is s o l w a → Leads m t (here s) (λ x d. Tried p e x d a r f o' l' w')
 
+-- a name that is used or declared: the identifier made anew, or the poison in its place
+abbrev pub Used : Type 0
+Used = Result Identifier Fault
+
 -- the identifier made anew, or the poison
 pub data Made (from : ℕ) : Used → Maybe Spot (Ident Spot) → Type 0 where
-  made_as : {j : Identifier} → Made from (U.As j) (ok (ident_of from j))
-  made_not : {f : Fault} {z : Poison Spot} → fault_b f ≡ poison_b z → Made from (U.Not f) (err z)
+  made_as : {j : Identifier} → Made from (Ok j) (ok (ident_of from j))
+  made_not : {f : Fault} {z : Poison Spot} → fault_b f ≡ poison_b z → Made from (Err f) (err z)
 
 -- the use x of a name, nothing read or written
 pub record Using (p : Ident Spot → Pass Spot (Maybe Spot (Ident Spot))) (s : Walk) (from : ℕ) (x : Ident Spot) (a : Ground) (o l : List ℕ) (r : Used) (w' : List ℕ) : Type 0 where
@@ -226,29 +239,20 @@ pub record Using (p : Ident Spot → Pass Spot (Maybe Spot (Ident Spot))) (s : W
 pub record Uses (p : Ident Spot → Pass Spot (Maybe Spot (Ident Spot))) (s : Walk) (i : Identifier) (w : List ℕ) (r : Used) (w' : List ℕ) : Type 0 where
   pub does : (from : ℕ) (o l : List ℕ) (a : Ground) → Is s o l w a → Using p s from (ident_of from i) a o l r w'
 
--- what a name that changes the state answers
-unfoldable pub walk_of : Named → Walk
-walk_of (N.As s i) = s
-walk_of (N.Not s f) = s
-
-unfoldable pub used_of : Named → Used
-used_of (N.As s i) = U.As i
-used_of (N.Not s f) = U.Not f
-
--- the name x declared or used, nothing read, nothing written but in the list
-pub record Naming (p : Ident Spot → Pass Spot (Maybe Spot (Ident Spot))) (s : Walk) (from : ℕ) (x : Ident Spot) (a : Ground) (o : List ℕ) (r : Named) (l' w' : List ℕ) : Type 0 where
-  pub cur : here (walk_of r) ≡ here s
-  pub is : Is (walk_of r) o l' w' (silently p x a)
-  pub made : Good (silently p x a) → Made from (used_of r) (p x a.st).0
+-- the name x declared or used, nothing read, nothing written but in the list: r is the walk behind it, u the answer
+pub record Naming (p : Ident Spot → Pass Spot (Maybe Spot (Ident Spot))) (s : Walk) (from : ℕ) (x : Ident Spot) (a : Ground) (o : List ℕ) (r : Walk) (u : Used) (l' w' : List ℕ) : Type 0 where
+  pub cur : here r ≡ here s
+  pub is : Is r o l' w' (silently p x a)
+  pub made : Good (silently p x a) → Made from u (p x a.st).0
 
 -- A FUNCTION THAT USES A VARIABLE, which is listed where it is refused
-pub record UsesListed (p : Ident Spot → Pass Spot (Maybe Spot (Ident Spot))) (s : Walk) (i : Identifier) (from : ℕ) (l w : List ℕ) (r : Named) (l' w' : List ℕ) : Type 0 where
-  pub does : from ≤ 65535 → (o : List ℕ) (a : Ground) → Is s o l w a → Naming p s from (ident_of from i) a o r l' w'
+pub record UsesListed (p : Ident Spot → Pass Spot (Maybe Spot (Ident Spot))) (s : Walk) (i : Identifier) (from : ℕ) (l w : List ℕ) (r : Walk) (u : Used) (l' w' : List ℕ) : Type 0 where
+  pub does : from ≤ 65535 → (o : List ℕ) (a : Ground) → Is s o l w a → Naming p s from (ident_of from i) a o r u l' w'
 
 -- A FUNCTION THAT DECLARES A NAME: one entry more is counted than there are locals, and it is in no constant's value
-pub record Declares (p : Ident Spot → Pass Spot (Maybe Spot (Ident Spot))) (s : Walk) (i : Identifier) (from : ℕ) (w : List ℕ) (r : Named) (w' : List ℕ) : Type 0 where
+pub record Declares (p : Ident Spot → Pass Spot (Maybe Spot (Ident Spot))) (s : Walk) (i : Identifier) (from : ℕ) (w : List ℕ) (r : Walk) (u : Used) (w' : List ℕ) : Type 0 where
   pub does : from ≤ 65535 → i.name < s.script.names → s.counts.entries ≤ 1024 → (o l : List ℕ) (a : Ground) → (Good a → length a.st.variable_stack.locals < s.counts.entries)
-      → (Good a → a.st.containment.in_constexpr_of_constant ≡ none) → Is s o l w a → Naming p s from (ident_of from i) a o r l w'
+      → (Good a → a.st.containment.in_constexpr_of_constant ≡ none) → Is s o l w a → Naming p s from (ident_of from i) a o r u l w'
 
 -- SCOPES AND IDS
 
@@ -274,7 +278,7 @@ pub record Grows (s u : Defs.Scope Spot) : Type 0 where
   pub more : List (Ident Spot)
   pub locals : u.locals ≡ s.locals ++ more
 
--- what `opened`, `numbered` and `closed` do
+-- what `push_scope`, `create_anonymous_resolution_id` and `pop_scope` do
 pub record Opens (s r : Walk) : Type 0 where
   pub cur : here r ≡ here s
   pub is : {o l w : List ℕ} {a : Ground} → Is s o l w a → Is r o l w (opening a)
@@ -283,9 +287,9 @@ pub record Numbers (s r : Walk) : Type 0 where
   pub cur : here r ≡ here s
   pub is : {o l w : List ℕ} {a : Ground} → Is s o l w a → Is r o l w (numbering a)
 
-pub record Closes (s outer : Walk) (w : List ℕ) (r : Walk) (w' : List ℕ) : Type 0 where
+pub record Closes (s : Walk) (outer : Scope) (w : List ℕ) (r : Walk) (w' : List ℕ) : Type 0 where
   pub cur : here r ≡ here s
-  pub is : {o l : List ℕ} {a : Ground} {o₀ l₀ w₀ : List ℕ} {b : Ground} → Is outer o₀ l₀ w₀ b → Is s o l w a → Grows b.st.variable_stack a.st.variable_stack → (Good a → Good b) → Is r o l w' (closing b a)
+  pub is : {o l : List ℕ} {a : Ground} {q : Walk} {o₀ l₀ w₀ : List ℕ} {b : Ground} → q.tables.scope ≡ outer → Is q o₀ l₀ w₀ b → Is s o l w a → Grows b.st.variable_stack a.st.variable_stack → (Good a → Good b) → Is r o l w' (closing b a)
 
 -- another in_constexpr_of_constant
 abbrev pub within : Option (Ident Spot) → Ground → Ground
@@ -299,17 +303,11 @@ pub record Constexpr (s : Walk) (constant : ℕ) (r : Walk) : Type 0 where
 
 -- POISONS OF THE CODE'S
 
-abbrev pub poisoned_fault : Fault
-poisoned_fault = record { kind = 0; name = 0; other = 0; place = 0; second = 0; third = 0; fourth = 0 }
+abbrev pub duplicate_fault : (kind : ℕ) → Identifier → (previous : ℕ) → Fault
+duplicate_fault k i previous = F.DuplicateDeclaration k i.name i.place previous
 
-abbrev pub undefined_fault : (kind : ℕ) → Identifier → Fault
-undefined_fault k i = record { kind = k; name = i.name; other = 0; place = i.place; second = 0; third = 0; fourth = 0 }
-
-abbrev pub duplicate_fault : (kind : ℕ) → Identifier → (before : ℕ) → Fault
-duplicate_fault k i before = record { kind = k; name = i.name; other = 0; place = i.place; second = before; third = 0; fourth = 0 }
-
-abbrev pub label_fault : Identifier → (before : ℕ) → Fault
-label_fault i before = record { kind = 1; name = i.name; other = 0; place = before; second = i.place; third = 0; fourth = 0 }
+abbrev pub label_fault : Identifier → (previous : ℕ) → Fault
+label_fault i previous = F.DuplicateDeclarationLabel i.name i.place previous
 
 -- NAMES AS THEY ARE WRITTEN
 

@@ -3,13 +3,13 @@ ghost use Rattle.std.specs.Prelude.{Bool};
 ghost use Rattle.penne.specs.Read.{read_ty};
 ghost use Rattle.walk.specs.Calls.{FindsIn, ContainerAt, EdgeTo, Cyclical, ConstantIn, FoundNamed, FoundLength, FoundIn};
 
-use super::fault::{Fault, poisoned};
+use super::fault::Fault;
 use super::state::Script;
 use containers::containers::{
-    Contained, Declared, Found, constant_in_cycle, container, find_container, found_container_1,
+    Contained, Declared, constant_in_cycle, container, find_container, found_container_1,
 };
-use fields::field::{Identified, read_identifier};
-use fields::number::{Read, below};
+use fields::field::read_identifier;
+use fields::number::below;
 use memory::layout::{CONTAINERS, CONTAINERS_END, WORDS};
 use nodes::value_type::value_type;
 
@@ -17,22 +17,15 @@ use nodes::value_type::value_type;
 #[derive(Clone, Copy)]
 pub struct Holder {
     pub row: usize,
-    pub is_member: bool,
-    pub member: u32,
+    pub member: Option<u32>,
 }
 
-// What becomes of a containee.
-#[derive(Clone, Copy)]
-pub enum Edge {
-    Fine,
-    Bad(Fault),
-}
-
-pub fn find_in(work: &[u32], script: Script, kind: u32, name: u32) -> Found
+#[tactic(auto, using(crate::proofs::Looking::finds_none))]
+pub fn find_in(work: &[u32], script: Script, kind: u32, name: u32) -> Option<usize>
     ensures { FindsIn script kind name work.now result }
 {
     if work.len() < WORDS {
-        return Found::Nothing;
+        return None;
     }
     let count = script.containers as usize;
     find_container(&work[CONTAINERS..CONTAINERS_END], count, kind, name)
@@ -52,68 +45,59 @@ pub fn container_at(work: &[u32], row: usize) -> Declared
 }
 
 // found_container_1, with the poison it answers.
-pub fn edge_to(work: &mut [u32], script: Script, holder: Holder, containee: usize) -> Edge
+pub fn edge_to(
+    work: &mut [u32],
+    script: Script,
+    holder: Holder,
+    containee: usize,
+) -> Result<(), Fault>
     ensures { EdgeTo script holder containee work.old result work.new }
 {
     if work.len() < WORDS {
-        return Edge::Fine;
+        return Ok(());
     }
     let count = script.containers as usize;
-    let row = holder.row;
-    let found = found_container_1(&mut work[CONTAINERS..CONTAINERS_END], count, row, containee);
-    match found {
-        Contained::Fine => Edge::Fine,
-        Contained::Poisoned => Edge::Bad(poisoned()),
-        Contained::Cyclical => Edge::Bad(cyclical(work, script, holder)),
+    let rows = &mut work[CONTAINERS..CONTAINERS_END];
+    match found_container_1(rows, count, holder.row, containee) {
+        Contained::Fine => Ok(()),
+        Contained::Poisoned => Err(Fault::Poisoned),
+        Contained::Cyclical => Err(cyclical(work, script, holder)),
     }
 }
 
 // The error of a container that now contains itself: CyclicalConstant (14) of a constant, CyclicalStructureWithConstant (16) or CyclicalStructure (15) of a structure at its member.
+#[tactic(auto, using(crate::proofs::Cycling::cyclical_constant, crate::proofs::Cycling::cyclical_structure_lem, crate::proofs::Cycling::cyclical_both))]
 fn cyclical(work: &[u32], script: Script, holder: Holder) -> Fault
     ensures { Cyclical script holder work.now result }
 {
-    let row = holder.row;
-    let c = container_at(work, row);
-    if !holder.is_member {
-        return Fault {
-            kind: 14,
-            name: c.name,
-            other: 0,
-            place: c.place,
-            second: 0,
-            third: 0,
-            fourth: 0,
-        };
-    }
-    let found = constant_in(work, script, row);
-    let Found::At(k) = found else {
-        return Fault {
-            kind: 15,
-            name: c.name,
-            other: 0,
-            place: c.place,
-            second: holder.member,
-            third: 0,
-            fourth: 0,
-        };
+    let Declared { name, place, .. } = container_at(work, holder.row);
+    let Some(member) = holder.member else {
+        return Fault::CyclicalConstant { name, place };
     };
-    let constant = container_at(work, k);
-    Fault {
-        kind: 16,
-        name: c.name,
-        other: constant.name,
-        place: c.place,
-        second: holder.member,
-        third: constant.place,
-        fourth: 0,
+    match constant_in(work, script, holder.row) {
+        Some(k) => {
+            let constant = container_at(work, k);
+            Fault::CyclicalStructureWithConstant {
+                name,
+                constant: constant.name,
+                place,
+                member,
+                place_of_constant: constant.place,
+            }
+        }
+        None => Fault::CyclicalStructure {
+            name,
+            place,
+            member,
+        },
     }
 }
 
-fn constant_in(work: &[u32], script: Script, row: usize) -> Found
+fn constant_in(work: &[u32], script: Script, row: usize) -> Option<usize>
     ensures { ConstantIn script row work.now result }
 {
     if work.len() < WORDS {
-        return Found::Nothing;
+        return None;
     }
     let count = script.containers as usize;
     constant_in_cycle(&work[CONTAINERS..CONTAINERS_END], count, row)
@@ -128,22 +112,21 @@ pub fn found_container(
     holder: Holder,
     at: usize,
     left: u32,
-) -> Edge
+) -> Result<(), Fault>
     ensures { (own : Bool) → FoundIn tree.now (read_ty left own) script holder at work.old result work.new }
 {
-    let kind = below(tree, 26, at);
-    let Read::Number(k, a) = kind else {
-        return Edge::Fine;
+    let Ok((k, a)) = below(tree, 26, at) else {
+        return Ok(());
     };
     if left == 0 {
-        return Edge::Fine;
+        return Ok(());
     }
     match k {
         14 => found_container(tree, work, script, holder, a, left - 1),
         15 => found_in_named_length(tree, work, script, holder, a, left - 1),
         16..=19 => found_container(tree, work, script, holder, a, left - 1),
         20..=22 => found_named(tree, work, script, holder, a, 3),
-        _ => Edge::Fine,
+        _ => Ok(()),
     }
 }
 
@@ -156,16 +139,12 @@ fn found_in_named_length(
     holder: Holder,
     at: usize,
     left: u32,
-) -> Edge
+) -> Result<(), Fault>
     ensures { (own : Bool) → FoundLength tree.now (read_ty left own) script holder at work.old result work.new }
 {
-    let element = found_container(tree, work, script, holder, at, left);
-    let Edge::Fine = element else {
-        return element;
-    };
-    let end = value_type(tree, script.names, false, at, left);
-    let Read::Number(_, a) = end else {
-        return Edge::Fine;
+    found_container(tree, work, script, holder, at, left)?;
+    let Ok(a) = value_type(tree, script.names, false, at, left) else {
+        return Ok(());
     };
     found_named(tree, work, script, holder, a, 0)
 }
@@ -178,16 +157,14 @@ fn found_named(
     holder: Holder,
     at: usize,
     kind: u32,
-) -> Edge
+) -> Result<(), Fault>
     ensures { FoundNamed tree.now script holder at kind work.old result work.new }
 {
-    let one = read_identifier(tree, script.names, at);
-    let Identified::Is(i, _) = one else {
-        return Edge::Fine;
+    let Ok((i, _)) = read_identifier(tree, script.names, at) else {
+        return Ok(());
     };
-    let found = find_in(work, script, kind, i.name);
-    let Found::At(row) = found else {
-        return Edge::Fine;
+    let Some(row) = find_in(work, script, kind, i.name) else {
+        return Ok(());
     };
     edge_to(work, script, holder, row)
 }

@@ -5,12 +5,11 @@ ghost use Rattle.penne.specs.Variables.{use_called};
 ghost use Rattle.walk.specs.Walking.{Opens, Closes, Numbers, Constexpr, Declares, Uses, UsesListed};
 ghost use Rattle.walk.specs.Calls.{DeclaresBy, Pushes, FindsLocal, LocalOf, Became, PlaceOfVariable, PlaceOfLocal, NoConstant, UsesRow, UsesLocal, ListsSkip, MayBeSkipped, PoisonsLocal, FindsFunctionIn, FunctionAt};
 
-use super::edges::{Edge, Holder, container_at, edge_to, find_in};
-use super::fault::{Fault, duplicate, poisoned, undefined};
-use super::state::{Tables, Walk};
+use super::edges::{Holder, container_at, edge_to, find_in};
+use super::fault::{Fault, duplicate};
+use super::state::{Script, Walk};
 use answer::identifier::resolved;
-use answer::record::then_record;
-use containers::containers::{Declared, Found as Predeclared};
+use containers::containers::Declared;
 use containers::functions::{find_function, function};
 use fields::field::Identifier;
 use memory::layout::{
@@ -18,30 +17,81 @@ use memory::layout::{
 };
 use memory::words::{next, word};
 use scopes::pruning::{Fate, fate_of, poison_variable};
-use scopes::scope::{Found, Local, local_at};
+use scopes::scope::{Local, Scope, local_at};
 
-// A name that is used: the identifier made anew, or the poison in its place.
-#[derive(Clone, Copy)]
-pub enum Used {
-    As(Identifier),
-    Not(Fault),
-}
+// DECLARING: a duplicate is answered by poison, yet takes an id and stays declared.
 
-// A name that changes the state too.
-#[derive(Clone, Copy)]
-pub enum Named {
-    As(Walk, Identifier),
-    Not(Walk, Fault),
-}
-
-fn find_local(work: &[u32], st: Walk, name: u32) -> Found
-    ensures { FindsLocal st name work.now result }
-{
-    if work.len() < WORDS {
-        return Found::Nothing;
+impl Walk {
+    // declare_variable (kind 4), declare_parameter (5), declare_member (6): a duplicate of any name in scope, a constant's too.
+    pub fn declare_variable(
+        &mut self,
+        work: &mut [u32],
+        kind: u32,
+        i: Identifier,
+        from: usize,
+    ) -> Result<Identifier, Fault>
+        ensures { DeclaresBy kind self.old i from work.old self.new result work.new }
+    {
+        let made = resolved(i, self.tables.next_id, 1);
+        let before = self.place_of_variable(work, i.name);
+        self.push_variable(work, made, from);
+        match before {
+            Some(place) => Err(duplicate(kind, i, place)),
+            None => Ok(made),
+        }
     }
-    let scope = st.tables.scope;
-    scope.find(&work[SCOPES..SCOPES_END], name)
+
+    // Where the outermost variable of a name was declared.
+    #[tactic(auto, using(crate::proofs::Placing::place_local, crate::proofs::Placing::place_constant))]
+    fn place_of_variable(&self, work: &[u32], name: u32) -> Option<u32>
+        ensures { PlaceOfVariable self.now name work.now result }
+    {
+        match find_in(work, self.script, 0, name) {
+            Some(row) => Some(container_at(work, row).place),
+            None => self.place_of_local(work, name),
+        }
+    }
+
+    #[tactic(auto, using(crate::proofs::Placing::no_local, crate::proofs::Placing::the_local))]
+    fn place_of_local(&self, work: &[u32], name: u32) -> Option<u32>
+        ensures { PlaceOfLocal self.now name work.now result }
+    {
+        let k = self.find_local(work, name)?;
+        Some(local_of(work, k).place)
+    }
+
+    fn find_local(&self, work: &[u32], name: u32) -> Option<usize>
+        ensures { FindsLocal self.now name work.now result }
+    {
+        if work.len() < WORDS {
+            return None;
+        }
+        self.tables.scope.find(&work[SCOPES..SCOPES_END], name)
+    }
+
+    // The last layer with one more, which takes the next id.
+    fn push_variable(&mut self, work: &mut [u32], i: Identifier, from: usize)
+        ensures { Pushes self.old i from work.old self.new work.new }
+    {
+        if work.len() < WORDS {
+            return;
+        }
+        if 65535 < from {
+            return;
+        }
+        let local = Local {
+            name: i.name,
+            place: i.place,
+            from: from as u32,
+            id: i.id,
+        };
+        let scope = self
+            .tables
+            .scope
+            .declare(&mut work[SCOPES..SCOPES_END], local);
+        self.tables.scope = scope;
+        self.tables.next_id = next(self.tables.next_id);
+    }
 }
 
 fn local_of(work: &[u32], k: usize) -> Local
@@ -58,152 +108,153 @@ fn local_of(work: &[u32], k: usize) -> Local
     local_at(&work[SCOPES..SCOPES_END], k)
 }
 
-// DECLARING: a duplicate is answered by poison, yet takes an id and stays declared.
-
-// declare_variable (kind 4), declare_parameter (5), declare_member (6): a duplicate of any name in scope, a constant's too.
-pub fn declare_variable(work: &mut [u32], st: Walk, kind: u32, i: Identifier, from: usize) -> Named
-    ensures { DeclaresBy kind st i from work.old result work.new }
-{
-    let id = st.tables.next_id;
-    let made = resolved(i, id, 1);
-    let before = place_of_variable(work, st, i.name);
-    let after = push_variable(work, st, made, from);
-    match before {
-        Place::At(place) => Named::Not(after, duplicate(kind, i, place)),
-        Place::Nowhere => Named::As(after, made),
-    }
-}
-
-// Where the outermost variable of a name was declared.
-#[derive(Clone, Copy)]
-pub enum Place {
-    At(u32),
-    Nowhere,
-}
-
-fn place_of_variable(work: &[u32], st: Walk, name: u32) -> Place
-    ensures { PlaceOfVariable st name work.now result }
-{
-    let constant = find_in(work, st.script, 0, name);
-    let Predeclared::At(row) = constant else {
-        return place_of_local(work, st, name);
-    };
-    let j = container_at(work, row);
-    Place::At(j.place)
-}
-
-fn place_of_local(work: &[u32], st: Walk, name: u32) -> Place
-    ensures { PlaceOfLocal st name work.now result }
-{
-    let found = find_local(work, st, name);
-    let Found::At(k) = found else {
-        return Place::Nowhere;
-    };
-    let j = local_of(work, k);
-    Place::At(j.place)
-}
-
-// The last layer with one more, which takes the next id.
-fn push_variable(work: &mut [u32], st: Walk, i: Identifier, from: usize) -> Walk
-    ensures { Pushes st i from work.old result work.new }
-{
-    if work.len() < WORDS {
-        return st;
-    }
-    if 65535 < from {
-        return st;
-    }
-    let tables = st.tables;
-    let scope = tables.scope;
-    let local = Local {
-        name: i.name,
-        place: i.place,
-        from: from as u32,
-        id: i.id,
-    };
-    let more = scope.declare(&mut work[SCOPES..SCOPES_END], local);
-    st.with(Tables {
-        scope: more,
-        next_id: next(tables.next_id),
-        constant: tables.constant,
-    })
-}
-
 // USING: a use takes the id of what it finds, and authority 0.
 
-// The use of a constant or structure by its row: in a constant's value a use is an edge.
-fn use_containee(work: &mut [u32], st: Walk, i: Identifier, row: usize) -> Used
-    ensures { UsesRow st i row work.old result work.new }
-{
-    let j = container_at(work, row);
-    let made = resolved(i, j.id, 0);
-    let constant = st.tables.constant as usize;
-    if constant < 1 {
-        return Used::As(made);
+impl Walk {
+    pub fn use_struct(&self, work: &mut [u32], i: Identifier) -> Result<Identifier, Fault>
+        ensures { Uses use_struct self.now i work.old result work.new }
+    {
+        let Identifier { name, place, .. } = i;
+        let row = find_in(work, self.script, 3, name).ok_or(Fault::UndefinedStructure {
+            name,
+            place,
+        })?;
+        self.use_containee(work, i, row)
     }
-    let holder = Holder {
-        row: constant - 1,
-        is_member: false,
-        member: 0,
-    };
-    let edge = edge_to(work, st.script, holder, row);
-    match edge {
-        Edge::Fine => Used::As(made),
-        Edge::Bad(fault) => Used::Not(fault),
+
+    // "`use_constant` searches layer 0 first, then only to choose kind 12 or 9.": NotACompileTimeConstant or UndefinedVariable.
+    pub fn use_constant(&self, work: &mut [u32], i: Identifier) -> Result<Identifier, Fault>
+        ensures { Uses use_constant self.now i work.old result work.new }
+    {
+        match find_in(work, self.script, 0, i.name) {
+            Some(row) => self.use_containee(work, i, row),
+            None => Err(self.no_constant(work, i)),
+        }
+    }
+
+    #[tactic(auto, using(crate::proofs::Using::use_local_constant, crate::proofs::Using::use_no_constant))]
+    fn no_constant(&self, work: &[u32], i: Identifier) -> Fault
+        ensures { NoConstant self.now i work.now result }
+    {
+        let Identifier { name, place, .. } = i;
+        match self.place_of_local(work, name) {
+            Some(declaration) => Fault::NotACompileTimeConstant {
+                name,
+                place,
+                declaration,
+            },
+            None => Fault::UndefinedVariable { name, place },
+        }
+    }
+
+    // The use of a constant or structure by its row: in a constant's value a use is an edge.
+    fn use_containee(
+        &self,
+        work: &mut [u32],
+        i: Identifier,
+        row: usize,
+    ) -> Result<Identifier, Fault>
+        ensures { UsesRow self.now i row work.old result work.new }
+    {
+        let made = resolved(i, container_at(work, row).id, 0);
+        let constant = self.tables.constant as usize;
+        if constant < 1 {
+            return Ok(made);
+        }
+        let holder = Holder {
+            row: constant - 1,
+            member: None,
+        };
+        edge_to(work, self.script, holder, row)?;
+        Ok(made)
+    }
+
+    pub fn use_function(&self, work: &[u32], i: Identifier) -> Result<Identifier, Fault>
+        ensures { Uses use_function self.now i work.now result work.now }
+    {
+        let Identifier { name, place, .. } = i;
+        let row = find_function_in(work, self.script, name).ok_or(Fault::UndefinedFunction {
+            name,
+            place,
+        })?;
+        Ok(resolved(i, function_at(work, row).id, 0))
+    }
+
+    // The name of a call: a builtin's stays as it came.
+    pub fn use_called(&self, work: &[u32], i: Identifier, builtin: u32) -> Result<Identifier, Fault>
+        ensures { Uses (λ x. use_called x builtin) self.now i work.now result work.now }
+    {
+        if builtin != 0 {
+            return Ok(i);
+        }
+        self.use_function(work, i)
+    }
+
+    // use_variable: all layers are searched, the outermost first. The identifier stands at `from`.
+    pub fn use_variable(
+        &mut self,
+        list: &mut [u32],
+        work: &mut [u32],
+        i: Identifier,
+        from: usize,
+    ) -> Result<Identifier, Fault>
+        ensures { UsesListed use_variable self.old i from list.old work.old self.new result list.new work.new }
+    {
+        match find_in(work, self.script, 0, i.name) {
+            Some(row) => self.use_containee(work, i, row),
+            None => self.use_local(list, work, i, from),
+        }
+    }
+
+    fn use_local(
+        &mut self,
+        list: &mut [u32],
+        work: &mut [u32],
+        i: Identifier,
+        from: usize,
+    ) -> Result<Identifier, Fault>
+        ensures { UsesLocal self.old i from list.old work.old self.new result list.new work.new }
+    {
+        let Identifier { name, place, .. } = i;
+        let k = self
+            .find_local(work, name)
+            .ok_or(Fault::UndefinedVariable { name, place })?;
+        let declared = local_of(work, k);
+        match what_became(work, k) {
+            Fate::Standing => Ok(resolved(i, declared.id, 0)),
+            Fate::Poisoned => {
+                self.list_skip(list, from, declared);
+                Err(Fault::Poisoned)
+            }
+            Fate::Pruned(label, goto) => {
+                let fault = may_be_skipped(work, i, declared, label, goto);
+                poison_local(work, k);
+                self.list_skip(list, from, declared);
+                Err(fault)
+            }
+        }
+    }
+
+    // The refused use goes into the list.
+    #[tactic(auto, using(crate::proofs::Looking::listed_far, crate::proofs::Skipping::listed_is))]
+    fn list_skip(&mut self, list: &mut [u32], from: usize, declared: Local)
+        ensures { ListsSkip self.old from declared list.old self.new list.new }
+    {
+        if 65535 < from {
+            return;
+        }
+        self.listed = self.listed.then_record(list, from as u32, declared.from);
     }
 }
 
-// use_struct: UndefinedStructure is kind 11.
-pub fn use_struct(work: &mut [u32], st: Walk, i: Identifier) -> Used
-    ensures { Uses use_struct st i work.old result work.new }
-{
-    let found = find_in(work, st.script, 3, i.name);
-    let Predeclared::At(row) = found else {
-        return Used::Not(undefined(11, i));
-    };
-    use_containee(work, st, i, row)
-}
-
-// "`use_constant` searches layer 0 first, then only to choose kind 12 or 9."
-pub fn use_constant(work: &mut [u32], st: Walk, i: Identifier) -> Used
-    ensures { Uses use_constant st i work.old result work.new }
-{
-    let found = find_in(work, st.script, 0, i.name);
-    let Predeclared::At(row) = found else {
-        return no_constant(work, st, i);
-    };
-    use_containee(work, st, i, row)
-}
-
-fn no_constant(work: &[u32], st: Walk, i: Identifier) -> Used
-    ensures { NoConstant st i work.now result }
-{
-    let local = place_of_local(work, st, i.name);
-    match local {
-        Place::At(place) => Used::Not(duplicate(12, i, place)),
-        Place::Nowhere => Used::Not(undefined(9, i)),
-    }
-}
-
-// use_function: UndefinedFunction is kind 10.
-pub fn use_function(work: &[u32], st: Walk, i: Identifier) -> Used
-    ensures { Uses use_function st i work.now result work.now }
-{
-    let found = find_function_in(work, st, i.name);
-    let Predeclared::At(row) = found else {
-        return Used::Not(undefined(10, i));
-    };
-    let j = function_at(work, row);
-    Used::As(resolved(i, j.id, 0))
-}
-
-pub fn find_function_in(work: &[u32], st: Walk, name: u32) -> Predeclared
-    ensures { FindsFunctionIn st.script name work.now result }
+#[tactic(auto, using(crate::proofs::Looking::finds_no_function))]
+pub fn find_function_in(work: &[u32], script: Script, name: u32) -> Option<usize>
+    ensures { FindsFunctionIn script name work.now result }
 {
     if work.len() < WORDS {
-        return Predeclared::Nothing;
+        return None;
     }
-    let count = st.script.functions as usize;
+    let count = script.functions as usize;
     find_function(&work[FUNCTIONS..FUNCTIONS_END], count, name)
 }
 
@@ -220,57 +271,6 @@ pub fn function_at(work: &[u32], row: usize) -> Declared
     function(&work[FUNCTIONS..FUNCTIONS_END], row)
 }
 
-// The name of a call: a builtin's stays as it came.
-pub fn use_called(work: &[u32], st: Walk, i: Identifier, builtin: u32) -> Used
-    ensures { Uses (λ x. use_called x builtin) st i work.now result work.now }
-{
-    if builtin != 0 {
-        return Used::As(i);
-    }
-    use_function(work, st, i)
-}
-
-// use_variable: all layers are searched, the outermost first. The identifier stands at `from`.
-pub fn use_variable(
-    list: &mut [u32],
-    work: &mut [u32],
-    st: Walk,
-    i: Identifier,
-    from: usize,
-) -> Named
-    ensures { UsesListed use_variable st i from list.old work.old result list.new work.new }
-{
-    let constant = find_in(work, st.script, 0, i.name);
-    let Predeclared::At(row) = constant else {
-        return use_local(list, work, st, i, from);
-    };
-    let used = use_containee(work, st, i, row);
-    match used {
-        Used::As(made) => Named::As(st, made),
-        Used::Not(fault) => Named::Not(st, fault),
-    }
-}
-
-fn use_local(list: &mut [u32], work: &mut [u32], st: Walk, i: Identifier, from: usize) -> Named
-    ensures { UsesLocal st i from list.old work.old result list.new work.new }
-{
-    let found = find_local(work, st, i.name);
-    let Found::At(k) = found else {
-        return Named::Not(st, undefined(9, i));
-    };
-    let j = local_of(work, k);
-    let became = what_became(work, k);
-    match became {
-        Fate::Standing => Named::As(st, resolved(i, j.id, 0)),
-        Fate::Poisoned => Named::Not(list_skip(list, st, from, j), poisoned()),
-        Fate::Pruned(label, place) => {
-            let fault = may_be_skipped(work, i, j, label, place);
-            poison_local(work, k);
-            Named::Not(list_skip(list, st, from, j), fault)
-        }
-    }
-}
-
 fn what_became(work: &[u32], k: usize) -> Fate
     ensures { Became k work.now result }
 {
@@ -280,6 +280,7 @@ fn what_became(work: &[u32], k: usize) -> Fate
     fate_of(&work[SCOPES..SCOPES_END], k)
 }
 
+#[tactic(auto, using(crate::proofs::Looking::poisoned_not, crate::proofs::Skipping::poisoned_is))]
 fn poison_local(work: &mut [u32], k: usize)
     ensures { PoisonsLocal k work.old work.new }
 {
@@ -289,91 +290,58 @@ fn poison_local(work: &mut [u32], k: usize)
     poison_variable(&mut work[SCOPES..SCOPES_END], k);
 }
 
-// The refused use goes into the list.
-fn list_skip(list: &mut [u32], st: Walk, from: usize, declared: Local) -> Walk
-    ensures { ListsSkip st from declared list.old result list.new }
-{
-    if 65535 < from {
-        return st;
-    }
-    let l = st.listed;
-    st.listed(then_record(list, l, from as u32, declared.from))
-}
-
-// VariableDeclarationMayBeSkipped, kind 13: the names of use and label, then the places of use, declaration, goto and label.
-fn may_be_skipped(work: &[u32], i: Identifier, declared: Local, label: usize, place: u32) -> Fault
-    ensures { MayBeSkipped work.now i declared label place result }
+// VariableDeclarationMayBeSkipped, of a label in the table.
+#[tactic(auto, using(crate::proofs::Skipping::skipped_is))]
+fn may_be_skipped(work: &[u32], i: Identifier, declared: Local, label: usize, goto: u32) -> Fault
+    ensures { MayBeSkipped work.now i declared label goto result }
 {
     if 1024 <= label {
-        return poisoned();
+        return Fault::Poisoned;
     }
-    Fault {
-        kind: 13,
+    Fault::VariableDeclarationMayBeSkipped {
         name: i.name,
-        other: word(work, SCOPES + LABEL_NAME + label),
+        label: word(work, SCOPES + LABEL_NAME + label),
         place: i.place,
-        second: declared.place,
-        third: place,
-        fourth: word(work, SCOPES + LABEL_PLACE + label),
+        declaration: declared.place,
+        goto,
+        place_of_label: word(work, SCOPES + LABEL_PLACE + label),
     }
 }
 
 // SCOPES
 
-// push_scope: a layer begins.
-pub fn opened(st: Walk) -> Walk
-    ensures { Opens st result }
-{
-    let tables = st.tables;
-    let scope = tables.scope;
-    st.with(Tables {
-        scope: scope.open(),
-        next_id: tables.next_id,
-        constant: tables.constant,
-    })
-}
-
-// pop_scope: the variables are those of `outer` again, the ids go on.
-pub fn closed(work: &mut [u32], st: Walk, outer: Walk) -> Walk
-    ensures { Closes st outer work.old result work.new }
-{
-    if work.len() < WORDS {
-        return st;
+impl Walk {
+    // push_scope: a layer begins.
+    pub fn push_scope(&mut self)
+        ensures { Opens self.old self.new }
+    {
+        self.tables.scope = self.tables.scope.open();
     }
-    let tables = st.tables;
-    let scope = tables.scope;
-    let before = outer.tables;
-    let kept = before.scope;
-    let back = scope.close(&mut work[SCOPES..SCOPES_END], kept);
-    st.with(Tables {
-        scope: back,
-        next_id: tables.next_id,
-        constant: tables.constant,
-    })
-}
 
-// create_anonymous_resolution_id: the next id is taken.
-pub fn numbered(st: Walk) -> Walk
-    ensures { Numbers st result }
-{
-    let tables = st.tables;
-    let scope = tables.scope;
-    st.with(Tables {
-        scope: scope,
-        next_id: next(tables.next_id),
-        constant: tables.constant,
-    })
-}
+    // pop_scope: the variables are those of `outer` again, the ids go on.
+    pub fn pop_scope(&mut self, work: &mut [u32], outer: Scope)
+        ensures { Closes self.old outer work.old self.new work.new }
+    {
+        if work.len() < WORDS {
+            return;
+        }
+        self.tables.scope = self
+            .tables
+            .scope
+            .close(&mut work[SCOPES..SCOPES_END], outer);
+    }
 
-// Another `in_constexpr_of_constant`.
-pub fn in_constexpr_of(st: Walk, constant: u32) -> Walk
-    ensures { Constexpr st constant result }
-{
-    let tables = st.tables;
-    let scope = tables.scope;
-    st.with(Tables {
-        scope: scope,
-        next_id: tables.next_id,
-        constant: constant,
-    })
+    // create_anonymous_resolution_id: the next id is taken.
+    pub fn create_anonymous_resolution_id(&mut self)
+        ensures { Numbers self.old self.new }
+    {
+        self.tables.next_id = next(self.tables.next_id);
+    }
+
+    // Another `in_constexpr_of_constant`.
+    pub fn in_constexpr_of(&mut self, constant: u32)
+        ensures { Constexpr self.old constant self.new }
+    {
+        self.tables.constant = constant;
+    }
 }

@@ -1,6 +1,4 @@
 // The state of the second pass. Tables stand in the work words.
-ghost use Rattle.walk.specs.Walking.{Moves, Writes, Lists, Counted, Takes};
-
 use answer::wrote::Wrote;
 use fields::counts::Counts;
 use scopes::scope::Scope;
@@ -31,82 +29,4 @@ pub struct Walk {
     pub counts: Counts,
     pub tables: Tables,
     pub script: Script,
-}
-
-impl Walk {
-    pub fn moved(self, at: usize) -> Self
-        ensures { Moves self at result }
-    {
-        let mut s = self;
-        s.at = at;
-        s
-    }
-
-    pub fn wrote(self, wrote: Wrote) -> Self
-        ensures { Writes self wrote result }
-    {
-        let listed = self.listed;
-        let counts = self.counts;
-        let tables = self.tables;
-        let script = self.script;
-        Walk {
-            at: self.at,
-            wrote: wrote,
-            listed: listed,
-            counts: counts,
-            tables: tables,
-            script: script,
-        }
-    }
-
-    pub fn listed(self, listed: Wrote) -> Self
-        ensures { Lists self listed result }
-    {
-        let wrote = self.wrote;
-        let counts = self.counts;
-        let tables = self.tables;
-        let script = self.script;
-        Walk {
-            at: self.at,
-            wrote: wrote,
-            listed: listed,
-            counts: counts,
-            tables: tables,
-            script: script,
-        }
-    }
-
-    pub fn counted(self, counts: Counts) -> Self
-        ensures { Counted self counts result }
-    {
-        let wrote = self.wrote;
-        let listed = self.listed;
-        let tables = self.tables;
-        let script = self.script;
-        Walk {
-            at: self.at,
-            wrote: wrote,
-            listed: listed,
-            counts: counts,
-            tables: tables,
-            script: script,
-        }
-    }
-
-    pub fn with(self, tables: Tables) -> Self
-        ensures { Takes self tables result }
-    {
-        let wrote = self.wrote;
-        let listed = self.listed;
-        let counts = self.counts;
-        let script = self.script;
-        Walk {
-            at: self.at,
-            wrote: wrote,
-            listed: listed,
-            counts: counts,
-            tables: tables,
-            script: script,
-        }
-    }
 }

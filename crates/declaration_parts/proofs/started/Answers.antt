@@ -1,5 +1,6 @@
+use mathlib.Core.Path.{refl}
 use Rattle.declaration_parts.proofs.Arms.{started_is}
 use Rattle.declaration_parts.proofs.started.Goals as goal
 
 pub returns : goal.returns
-returns c = started_is c.then_number-x.ensures c.then_number-y.ensures c.then_numbers-z.ensures c.write_identifier-v.ensures c.wrote.ensures c.moved.ensures
+returns c = started_is c.then_number.ensures c.then_number-2.ensures c.then_numbers.ensures c.then_identifier-st.ensures (record { is = refl }) (record { is = refl })

@@ -2,10 +2,10 @@ use Rattle.entries.proofs.Entries.{declared_unread, declared_as, declared_not}
 use Rattle.entries.proofs.declared.Goals as goal
 
 pub returns-in_default : goal.returns-in_default
-returns-in_default c = declared_unread c.read_identifier-one.ensures c.in_default.is
+returns-in_default c = declared_unread c.read_identifier.ensures c.in_default.is
 
-pub returns-in-As : goal.returns-in-As
-returns-in-As c = declared_as c.read_identifier-one.ensures c.in-Is.is c.declare_variable-named.ensures c.in-As.is c.write_ok-x.ensures c.wrote.ensures c.moved.ensures
+pub returns-in-Ok-named : goal.returns-in-Ok-named
+returns-in-Ok-named c = declared_as c.read_identifier.ensures c.in-Ok.is c.in-Ok-named.ensures c.write_ok-st.ensures
 
-pub returns-in-Not : goal.returns-in-Not
-returns-in-Not c = declared_not c.read_identifier-one.ensures c.in-Is.is c.declare_variable-named.ensures c.in-Not.is c.write_fault-x.ensures c.wrote-in-Not.ensures c.moved-in-Not.ensures
+pub returns-in-Err : goal.returns-in-Err
+returns-in-Err c = declared_not c.read_identifier.ensures c.in-Ok.is c.in-Err.ensures c.write_fault-st.ensures

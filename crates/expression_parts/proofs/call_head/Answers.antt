@@ -1,5 +1,6 @@
-use Rattle.expression_parts.proofs.Heading.{headed}
+use mathlib.Core.Path.{refl}
+use Rattle.answer.proofs.Chain.{◌▸◌}
 use Rattle.expression_parts.proofs.call_head.Goals as goal
 
 pub returns : goal.returns
-returns c = headed c.then_number-x.ensures c.write_identifier-y.ensures c.then_numbers-z.ensures c.wrote.ensures c.moved.ensures
+returns c = record { wrote = c.then_numbers-st.result; put = c.then_number.ensures ▸ (c.then_identifier.ensures ▸ c.then_numbers-st.ensures); is = refl }

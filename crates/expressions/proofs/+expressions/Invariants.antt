@@ -4,7 +4,7 @@ use Rattle.penne.specs.Tree.{expr, step}
 use Rattle.walk.specs.Walking.{onward}
 use Rattle.walk.proofs.Leading.{Going}
 use Rattle.expression_parts.specs.Expressing.{nodes}
-use Prim.Native.Nat.{◌+◌, ◌*◌}
+use Prim.Native.Nat.{◌+◌, ◌-◌, ◌*◌}
 use Rattle.expressions.proofs.+expressions.Given as goal
 
 abbrev pub decreases-array_literal : goal.decreases-array_literal
@@ -64,20 +64,11 @@ decreases-type_cast l = l.left * 8 + 3
 abbrev pub decreases-unary : goal.decreases-unary
 decreases-unary l = l.left * 8 + 3
 
-abbrev pub invariant-expressions-loop-rest : goal.invariant-expressions-loop-rest
-invariant-expressions-loop-rest l = Going l.tree (read l.left expr) (λ xs b. onward nodes node_b xs b) l.n l.initial.s l.initial.answer l.initial.list l.initial.work l.rest l.s l.answer l.list l.work
+abbrev pub invariant-expressions-loop : goal.invariant-expressions-loop
+invariant-expressions-loop l = Going l.tree (read l.left expr) (λ xs b. onward nodes node_b xs b) l.n l.initial.st l.initial.answer l.initial.list l.initial.work (l.n - l.counter) l.st l.answer l.list l.work
 
-abbrev pub decreases-expressions-loop-rest : goal.decreases-expressions-loop-rest
-decreases-expressions-loop-rest l = l.rest
+abbrev pub invariant-items-loop : goal.invariant-items-loop
+invariant-items-loop l = Going l.tree (item_of (read l.left)) (λ xs b. onward nodes node_b xs b) l.n l.initial.st l.initial.answer l.initial.list l.initial.work (l.n - l.counter) l.st l.answer l.list l.work
 
-abbrev pub invariant-items-loop-rest : goal.invariant-items-loop-rest
-invariant-items-loop-rest l = Going l.tree (item_of (read l.left)) (λ xs b. onward nodes node_b xs b) l.n l.initial.s l.initial.answer l.initial.list l.initial.work l.rest l.s l.answer l.list l.work
-
-abbrev pub decreases-items-loop-rest : goal.decreases-items-loop-rest
-decreases-items-loop-rest l = l.rest
-
-abbrev pub invariant-steps-loop-rest : goal.invariant-steps-loop-rest
-invariant-steps-loop-rest l = Going l.tree (read l.left step) (λ xs b. onward nodes node_b xs b) l.n l.initial.s l.initial.answer l.initial.list l.initial.work l.rest l.s l.answer l.list l.work
-
-abbrev pub decreases-steps-loop-rest : goal.decreases-steps-loop-rest
-decreases-steps-loop-rest l = l.rest
+abbrev pub invariant-steps-loop : goal.invariant-steps-loop
+invariant-steps-loop l = Going l.tree (read l.left step) (λ xs b. onward nodes node_b xs b) l.n l.initial.st l.initial.answer l.initial.list l.initial.work (l.n - l.counter) l.st l.answer l.list l.work

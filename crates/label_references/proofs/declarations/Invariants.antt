@@ -4,8 +4,5 @@ use Rattle.tree.specs.Ends.{Known}
 use Rattle.label_references.proofs.Deciding.{Deciding}
 use Rattle.label_references.proofs.declarations.Given as goal
 
-abbrev pub invariant-loop-rest : goal.invariant-loop-rest
-invariant-loop-rest l = (length l.work ≡ length l.initial.work) × (Known l.tree l.names l.ends → Deciding l.tree l.names l.initial.rest l.initial.at l.initial.so_far l.initial.next_id l.initial.work l.rest l.at l.so_far l.next_id l.work)
-
-abbrev pub decreases-loop-rest : goal.decreases-loop-rest
-decreases-loop-rest l = l.rest
+abbrev pub invariant-loop-row : goal.invariant-loop-row
+invariant-loop-row l = (length l.work ≡ length l.initial.work) × (Known l.tree l.names l.ends → Deciding l.tree l.names l.fn.layout.count l.fn.layout.first l.initial.counts 1 l.initial.work l.row l.at l.counts l.next_id l.work)

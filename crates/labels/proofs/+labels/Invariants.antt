@@ -15,7 +15,7 @@ abbrev pub decreases-visit_list : goal.decreases-visit_list
 decreases-visit_list l = l.left * 4 + 1
 
 abbrev pub invariant-visit_list-loop-k : goal.invariant-visit_list-loop-k
-invariant-visit_list-loop-k l = Visiting l.left l.last l.initial.l l.initial.work l.k l.l l.work
+invariant-visit_list-loop-k l = Visiting l.left l.fn.last l.fn.labels l.initial.work l.last l.labels l.work
 
 abbrev pub decreases-visit_list-loop-k : goal.decreases-visit_list-loop-k
-decreases-visit_list-loop-k l = l.k
+decreases-visit_list-loop-k l = l.last

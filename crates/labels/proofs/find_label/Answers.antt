@@ -1,11 +1,9 @@
-use Rattle.labels.proofs.Finding.{finds_short, finds_many, finding_start, finding_hit, finding_more, finding_none}
+use native.Mathlib.Omega.{arith}
+use Rattle.labels.proofs.Finding.{finds_out, finding_start, finding_hit, finding_more, finding_none}
 use Rattle.labels.proofs.find_label.Goals as goal
 
 pub returns-then-work-lt-LABEL_STACK_END : goal.returns-then-work-lt-LABEL_STACK_END
-returns-then-work-lt-LABEL_STACK_END c = finds_short c.if-work-lt-LABEL_STACK_END.true
-
-pub returns-then-count-gt1024 : goal.returns-then-count-gt1024
-returns-then-count-gt1024 c = finds_many c.if-count-gt1024.true
+returns-then-work-lt-LABEL_STACK_END c = finds_out (λ x y. omega arith)
 
 pub loop-i-init : goal.loop-i-init
 loop-i-init c = finding_start

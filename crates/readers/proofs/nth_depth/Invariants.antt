@@ -1,8 +1,6 @@
+use Prim.Native.Nat.{◌-◌}
 use Rattle.readers.proofs.Asking.{Skipping}
 use Rattle.readers.proofs.nth_depth.Given as goal
 
-abbrev pub invariant-loop-rest : goal.invariant-loop-rest
-invariant-loop-rest l = Skipping l.tree l.at l.n l.rest l.cur
-
-abbrev pub decreases-loop-rest : goal.decreases-loop-rest
-decreases-loop-rest l = l.rest
+abbrev pub invariant-loop : goal.invariant-loop
+invariant-loop l = Skipping l.tree l.fn.at l.n (l.n - l.counter) l.at

@@ -1,5 +1,6 @@
-use Rattle.answer.proofs.Chain.{◌▸◌}
+use borrow.Author.Rules.{rules}
+use Rattle.answer.proofs.Chain.{then_more}
 use Rattle.statement_parts.proofs.jump.Goals as goal
 
 pub returns : goal.returns
-returns c = c.then_number-x.ensures ▸ (c.write_identifier-y.ensures ▸ c.then_number.ensures)
+returns c = search (rules, then_more)

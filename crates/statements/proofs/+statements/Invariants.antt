@@ -2,7 +2,7 @@ use Rattle.penne.specs.Read.{read_stmt, to_stms}
 use Rattle.penne.specs.Write.{stm_b}
 use Rattle.walk.proofs.Leading.{Going}
 use Rattle.statement_parts.specs.Stating.{stm_walk}
-use Prim.Native.Nat.{◌+◌, ◌*◌}
+use Prim.Native.Nat.{◌+◌, ◌-◌, ◌*◌}
 use Rattle.statements.proofs.+statements.Given as goal
 
 abbrev pub decreases-block : goal.decreases-block
@@ -23,8 +23,5 @@ decreases-statements l = l.left * 8 + 1
 abbrev pub decreases-stmt : goal.decreases-stmt
 decreases-stmt l = l.left * 8 + 0
 
-abbrev pub invariant-statements-loop-rest : goal.invariant-statements-loop-rest
-invariant-statements-loop-rest l = Going l.tree (read_stmt l.left) (λ xs b. stm_walk stm_b (to_stms xs) b) l.n l.initial.s l.initial.answer l.initial.list l.initial.work l.rest l.s l.answer l.list l.work
-
-abbrev pub decreases-statements-loop-rest : goal.decreases-statements-loop-rest
-decreases-statements-loop-rest l = l.rest
+abbrev pub invariant-statements-loop : goal.invariant-statements-loop
+invariant-statements-loop l = Going l.tree (read_stmt l.left) (λ xs b. stm_walk stm_b (to_stms xs) b) l.n l.initial.st l.initial.answer l.initial.list l.initial.work (l.n - l.counter) l.st l.answer l.list l.work

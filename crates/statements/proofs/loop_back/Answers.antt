@@ -1,8 +1,9 @@
-use Rattle.statements.proofs.Arms.{loop_not, looped}
+use Rattle.statement_parts.proofs.Fit.{unplaced}
+use Rattle.statements.proofs.Arms.{looped}
 use Rattle.statements.proofs.loop_back.Goals as goal
 
 pub returns-in_default : goal.returns-in_default
-returns-in_default c = λ l w. loop_not c.number-place.ensures c.in_default.is
+returns-in_default c = λ l w. unplaced _ c.number.ensures c.in_default.is
 
 pub returns : goal.returns
-returns c = λ l w. looped c.number-place.ensures c.in-Number.is c.then_head-x.ensures c.wrote.ensures c.moved.ensures
+returns c = λ l w. looped c.number.ensures c.in-Ok.is c.then_head-st.ensures

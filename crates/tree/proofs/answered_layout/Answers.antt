@@ -1,18 +1,23 @@
 use Rattle.penne.specs.Read.{answered}
-use Rattle.tree.proofs.Scripts.{layout_long, layout_unlaid, layout_refused, layout_left, layout_all, answered_ends}
+use Rattle.std.proofs.lemmas.Result.{err_from_is_err_and}
+use Rattle.tree.proofs.Layouts.{layout_long, layout_unlaid, layout_refused, layout_left, layout_all, answered_ends}
 use Rattle.tree.proofs.answered_layout.Goals as goal
 
 pub returns-then-tree-gt65535 : goal.returns-then-tree-gt65535
-returns-then-tree-gt65535 c = layout_long answered c.if-tree-gt65535.true
+returns-then-tree-gt65535 c = rw c.at.ensures (layout_long answered c.if-tree-gt65535.true)
 
-pub returns-in_default : goal.returns-in_default
-returns-in_default c = layout_unlaid answered c.if-tree-gt65535.false c.lay_out-laid.ensures.0 c.in_default.is
+pub returns-in_err-layout : goal.returns-in_err-layout
+returns-in_err-layout c =
+    let p = err_from_is_err_and c.from_residual.result c.from_residual.ensures.1 in
+    rw (p.1, p.2) (layout_unlaid answered _ c.if-tree-gt65535.false c.in_err-layout.ensures.0)
 
-pub returns-in_default-depths : goal.returns-in_default-depths
-returns-in_default-depths c = layout_refused answered c.if-tree-gt65535.false c.lay_out-laid.ensures.0 c.in-Out.is (answered_ends c.lay_out-laid.ensures.0 c.in-Out.is c.answered_depths-depths.ensures) c.in_default-depths.is c.not_laid.ensures
+pub returns-in_err-end : goal.returns-in_err-end
+returns-in_err-end c =
+    let p = err_from_is_err_and c.from_residual-in_err-end.result c.from_residual-in_err-end.ensures.1 in
+    rw (p.1, p.2) (layout_refused answered _ c.if-tree-gt65535.false c.in_ok-layout.ensures.0.out (answered_ends c.in_ok-layout.ensures.0.out c.in_err-end.ensures))
 
-pub returns-then-at-tree : goal.returns-then-at-tree
-returns-then-at-tree c = layout_left answered c.if-tree-gt65535.false c.lay_out-laid.ensures.0 c.in-Out.is (answered_ends c.lay_out-laid.ensures.0 c.in-Out.is c.answered_depths-depths.ensures) c.in-Number.is c.if-at-tree.true
+pub returns-then-end-tree : goal.returns-then-end-tree
+returns-then-end-tree c = rw c.at-then-end-tree.ensures (layout_left answered _ c.if-tree-gt65535.false c.in_ok-layout.ensures.0.out (answered_ends c.in_ok-layout.ensures.0.out c.in_ok-end.ensures) c.if-end-tree.true)
 
 pub returns : goal.returns
-returns c = layout_all answered c.if-tree-gt65535.false c.lay_out-laid.ensures.0 c.in-Out.is (answered_ends c.lay_out-laid.ensures.0 c.in-Out.is c.answered_depths-depths.ensures) c.in-Number.is c.if-at-tree.false
+returns c = layout_all answered _ c.if-tree-gt65535.false c.in_ok-layout.ensures.0.out (answered_ends c.in_ok-layout.ensures.0.out c.in_ok-end.ensures) c.if-end-tree.false

@@ -1,25 +1,19 @@
-use Rattle.types.proofs.Trying.{fine_is, bad_is}
-use Rattle.types.proofs.Contained.{contained_unread, contained_poison, contained_bad, contained_fine, contained_late}
+use mathlib.Core.Path.{refl}
 use mathlib.Core.Bool.{true}
-use Rattle.types.specs.Typing.{walk_of, fault_of}
+use Rattle.types.proofs.Contained.{contained_unread, contained_poison, contained_bad, contained_fine, contained_late}
 use Rattle.types.proofs.contained_type.Goals as goal
 
 pub returns-in_default : goal.returns-in_default
-unfolding walk_of fault_of
-returns-in_default c = λ l. contained_unread _ c.below-tag.ensures c.in_default.is
+returns-in_default c = λ l. contained_unread _ c.below.ensures c.in_default.is
 
 pub returns-then-t-ne0 : goal.returns-then-t-ne0
-unfolding walk_of fault_of
-returns-then-t-ne0 c = λ l. contained_poison _ c.below-tag.ensures c.in-Number.is c.if-t-ne0.true c.moved.ensures (c.copy_poison.ensures l _)
+returns-then-t-ne0 c = λ l. contained_poison _ c.below.ensures c.in-Ok.is c.if-t-ne0.true (c.copy_poison.ensures l _)
 
-pub returns-in-Fine-edge : goal.returns-in-Fine-edge
-unfolding walk_of fault_of
-returns-in-Fine-edge c = λ l. contained_fine _ c.below-tag.ensures c.in-Number.is c.if-t-ne0.false c.then_number-x.ensures c.wrote.ensures c.moved-2.ensures (fine_is c.in-Fine.is (c.value_type-typed.ensures true l)) (c.found_container-edge.ensures true) c.in-Fine-edge.is
+pub returns-in-Err : goal.returns-in-Err
+returns-in-Err c = λ l. contained_bad _ c.below.ensures c.in-Ok.is c.if-t-ne0.false c.then_number-st.ensures (c.in-Err.ensures true l) c.write_fault-st.ensures
 
-pub returns-in-Bad-edge : goal.returns-in-Bad-edge
-unfolding walk_of fault_of
-returns-in-Bad-edge c = λ l. contained_late _ c.below-tag.ensures c.in-Number.is c.if-t-ne0.false c.then_number-x.ensures c.wrote.ensures c.moved-2.ensures (fine_is c.in-Fine.is (c.value_type-typed.ensures true l)) (c.found_container-edge.ensures true) c.in-Bad-edge.is c.write_fault.ensures c.wrote-in-Bad-edge.ensures
+pub returns-in_default-found_container : goal.returns-in_default-found_container
+returns-in_default-found_container c = λ l. contained_fine _ c.below.ensures c.in-Ok.is c.if-t-ne0.false c.then_number-st.ensures (c.in_default-value_type.ensures true l) (c.in_default-found_container.ensures true) refl
 
-pub returns-in-Bad : goal.returns-in-Bad
-unfolding walk_of fault_of
-returns-in-Bad c = λ l. contained_bad _ c.below-tag.ensures c.in-Number.is c.if-t-ne0.false c.then_number-x.ensures c.wrote.ensures c.moved-2.ensures (bad_is c.in-Bad.is (c.value_type-typed.ensures true l)) c.write_fault-in-Bad.ensures c.wrote-in-Bad.ensures
+pub returns-in-Err-found_container : goal.returns-in-Err-found_container
+returns-in-Err-found_container c = λ l. contained_late _ c.below.ensures c.in-Ok.is c.if-t-ne0.false c.then_number-st.ensures (c.in_default-value_type.ensures true l) (c.in-Err-found_container.ensures true) refl c.write_fault-st-in-Err-found_container.ensures

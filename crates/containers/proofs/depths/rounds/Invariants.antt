@@ -1,9 +1,5 @@
-use Prim.Native.Nat.{◌-◌}
 use Rattle.containers.proofs.Rounding.{Going}
 use Rattle.containers.proofs.depths.rounds.Given as goal
 
 abbrev pub invariant-loop-d : goal.invariant-loop-d
 invariant-loop-d l = Going l.count l.initial.table l.table l.d
-
-abbrev pub decreases-loop-d : goal.decreases-loop-d
-decreases-loop-d l = l.count - l.d

@@ -1,15 +1,12 @@
-use mathlib.Core.Path.{sym, ◌∙◌}
-use Rattle.containers.proofs.Finding.{searching_start, searching_more, searching_found, searching_done, finds_function}
+use borrow.Author.Rules.{rules}
+use mathlib.Core.Path.{◌≡◌}
+use mathlib.Core.Bool.{true, false}
+use Rattle.std.proofs.lemmas.Iterator.{first_from_Range}
+use Rattle.containers.specs.Functions.{function_is}
+use Rattle.containers.proofs.Finding.{first_is, finds_function}
 use Rattle.containers.proofs.functions.find_function.Goals as goal
 
-pub loop-row-init : goal.loop-row-init
-loop-row-init c = searching_start
-
-pub returns-then-is_named : goal.returns-then-is_named
-returns-then-is_named c = finds_function (searching_found c.loop-row.invariant c.loop-row-test.true (sym c.is_named.ensures ∙ c.if-is_named.true))
-
-pub loop-row-preserved : goal.loop-row-preserved
-loop-row-preserved c = searching_more c.loop-row.invariant (sym c.is_named.ensures ∙ c.if-is_named.false)
-
 pub returns : goal.returns
-returns c = finds_function (searching_done c.loop-row.invariant c.loop-row-test.false)
+returns c =
+    let test = function_is c.args.table.now c.args.name in
+    finds_function (first_is _ (first_from_Range _ _ _ _ (λ i. test i ≡ true) (λ i. test i ≡ false) c.find.ensures.ran (λ x q e. search rules) (λ x q e. search rules)))

@@ -1,14 +1,11 @@
-use Rattle.fields.proofs.Chain.{ends_place, passing_start, passing_more, passing_halt, passing_done}
+use Rattle.std.proofs.Common.{arith, ◌∙◌, ◌≡◌, ◌-◌}
+use Rattle.penne.specs.Read.{place}
+use Rattle.fields.proofs.Lists.{many_on, many_end}
+use Rattle.fields.proofs.Parts.{place_got}
 use Rattle.fields.proofs.poison.places.Goals as goal
 
-pub loop-rest-init : goal.loop-rest-init
-loop-rest-init c = λ names. passing_start
-
-pub returns-in_default : goal.returns-in_default
-returns-in_default c = record { ends = λ names. passing_halt (c.loop-rest.invariant names) c.loop-rest-test.true (ends_place c.number-one.ensures) c.in_default.is }
-
-pub loop-rest-preserved : goal.loop-rest-preserved
-loop-rest-preserved c = λ names. passing_more (c.loop-rest.invariant names) c.loop-rest-test.true (ends_place c.number-one.ensures) c.in-Number.is
+pub loop-preserved : goal.loop-preserved
+loop-preserved c = λ names k. c.loop.invariant names k ∙ many_on place _ _ _ _ _ _ (omega arith) (place_got _ _ (c.in_ok-at.ensures.is names k))
 
 pub returns : goal.returns
-returns c = record { ends = λ names. passing_done (c.loop-rest.invariant names) c.loop-rest-test.false }
+returns c = let none : c.args.count - c.loop.counter ≡ 0 = omega arith in record { is = λ names k. rw none at (c.loop.invariant names k) ∙ many_end place _ _ }

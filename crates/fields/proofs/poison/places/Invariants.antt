@@ -1,10 +1,8 @@
-use Prim.Native.Nat.{ℕ}
+use Rattle.std.proofs.Common.{◌≡◌, ◌-◌, ℕ}
+use Rattle.penne.specs.Reader.{Counts, many}
 use Rattle.penne.specs.Read.{place}
-use Rattle.fields.proofs.Chain.{Passing}
+use Rattle.fields.specs.Answers.{forget, cursor}
 use Rattle.fields.proofs.poison.places.Given as goal
 
-abbrev pub invariant-loop-rest : goal.invariant-loop-rest
-invariant-loop-rest l = (names : ℕ) → Passing place l.tree names l.count l.at l.rest l.cur
-
-abbrev pub decreases-loop-rest : goal.decreases-loop-rest
-decreases-loop-rest l = l.rest
+abbrev pub invariant-loop : goal.invariant-loop
+invariant-loop l = (names : ℕ) (k : Counts) → forget (many place l.count l.tree (cursor l.fn.at names k)) ≡ forget (many place (l.count - l.counter) l.tree (cursor l.at names k))

@@ -1,6 +1,6 @@
 use Rattle.penne.specs.Read.{read_stmt}
 use Rattle.label_references.proofs.Laying.{Laying}
-use Prim.Native.Nat.{◌+◌, ◌*◌}
+use Prim.Native.Nat.{◌+◌, ◌-◌, ◌*◌}
 use Rattle.label_references.proofs.shape.+shape.Given as goal
 
 abbrev pub decreases-lay : goal.decreases-lay
@@ -18,8 +18,5 @@ decreases-lay_else l = l.left * 4 + 1
 abbrev pub decreases-lay_list : goal.decreases-lay_list
 decreases-lay_list l = l.left * 4 + 1
 
-abbrev pub invariant-lay_list-loop-rest : goal.invariant-lay_list-loop-rest
-invariant-lay_list-loop-rest l = Laying (read_stmt l.left) l.tree l.names l.left l.n l.a l.initial.so_far l.initial.work l.rest l.cur l.so_far l.last l.work
-
-abbrev pub decreases-lay_list-loop-rest : goal.decreases-lay_list-loop-rest
-decreases-lay_list-loop-rest l = l.rest
+abbrev pub invariant-lay_list-loop : goal.invariant-lay_list-loop
+invariant-lay_list-loop l = Laying (read_stmt l.left) l.tree l.names l.left l.count l.first l.fn.counts l.initial.work (l.count - l.counter) l.so_far l.work

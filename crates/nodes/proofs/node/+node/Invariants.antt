@@ -1,7 +1,8 @@
 use Rattle.penne.specs.Read.{read, item_of}
 use Rattle.penne.specs.Tree.{expr, step}
-use Rattle.fields.proofs.Chain.{Passing}
-use Prim.Native.Nat.{◌+◌, ◌*◌}
+use Rattle.penne.specs.Reader.{listed}
+use Rattle.fields.proofs.Lists.{Rest}
+use Prim.Native.Nat.{◌+◌, ◌*◌, ◌-◌}
 use Rattle.nodes.proofs.node.+node.Given as goal
 
 abbrev pub decreases-array_literal : goal.decreases-array_literal
@@ -61,20 +62,11 @@ decreases-type_cast l = l.left * 5 + 1
 abbrev pub decreases-unary : goal.decreases-unary
 decreases-unary l = l.left * 5 + 1
 
-abbrev pub invariant-expressions-loop-rest : goal.invariant-expressions-loop-rest
-invariant-expressions-loop-rest l = Passing (read l.left expr) l.tree l.names l.n l.a l.rest l.cur
+abbrev pub invariant-expressions-loop : goal.invariant-expressions-loop
+invariant-expressions-loop l = Rest (listed (read l.left expr)) (read l.left expr) l.tree l.names l.fn.at (l.count - l.counter) l.at
 
-abbrev pub decreases-expressions-loop-rest : goal.decreases-expressions-loop-rest
-decreases-expressions-loop-rest l = l.rest
+abbrev pub invariant-items-loop : goal.invariant-items-loop
+invariant-items-loop l = Rest (listed (item_of (read l.left))) (item_of (read l.left)) l.tree l.names l.fn.at (l.count - l.counter) l.at
 
-abbrev pub invariant-items-loop-rest : goal.invariant-items-loop-rest
-invariant-items-loop-rest l = Passing (item_of (read l.left)) l.tree l.names l.n l.a l.rest l.cur
-
-abbrev pub decreases-items-loop-rest : goal.decreases-items-loop-rest
-decreases-items-loop-rest l = l.rest
-
-abbrev pub invariant-steps-loop-rest : goal.invariant-steps-loop-rest
-invariant-steps-loop-rest l = Passing (read l.left step) l.tree l.names l.n l.a l.rest l.cur
-
-abbrev pub decreases-steps-loop-rest : goal.decreases-steps-loop-rest
-decreases-steps-loop-rest l = l.rest
+abbrev pub invariant-steps-loop : goal.invariant-steps-loop
+invariant-steps-loop l = Rest (listed (read l.left step)) (read l.left step) l.tree l.names l.fn.at (l.count - l.counter) l.at

@@ -1,20 +1,18 @@
-use Rattle.readers.proofs.Naming.{title_unread, title_other, title_flags, title_place, title_name, title_is}
+use Rattle.std.proofs.lemmas.Result.{err_from_is_err_and}
+use Rattle.readers.proofs.Naming.{title_flags, title_place, title_name}
 use Rattle.readers.proofs.find.title.Goals as goal
 
-pub returns-in_default : goal.returns-in_default
-returns-in_default c = title_unread c.below-kind.ensures c.in_default.is
+pub returns-in_err-at : goal.returns-in_err-at
+returns-in_err-at c =
+    let p = err_from_is_err_and c.from_residual-in_err-at.result c.from_residual-in_err-at.ensures.1 in
+    rw (p.1, p.2) (title_flags c.in_ok-kind.ensures c.if-kind-ne3.false c.in_err-at.ensures)
 
-pub returns-then-k-ne3 : goal.returns-then-k-ne3
-returns-then-k-ne3 c = title_other c.below-kind.ensures c.in-Number.is c.if-k-ne3.true
+pub returns-in_err-at-2 : goal.returns-in_err-at-2
+returns-in_err-at-2 c =
+    let p = err_from_is_err_and c.from_residual-in_err-at-2.result c.from_residual-in_err-at-2.ensures.1 in
+    rw (p.1, p.2) (title_place c.in_ok-kind.ensures c.if-kind-ne3.false c.in_ok-at.ensures c.in_err-at-2.ensures)
 
-pub returns-in_default-flags : goal.returns-in_default-flags
-returns-in_default-flags c = title_flags c.below-kind.ensures c.in-Number.is c.if-k-ne3.false c.below-flags.ensures c.in_default-flags.is
-
-pub returns-in_default-place : goal.returns-in_default-place
-returns-in_default-place c = title_place c.below-kind.ensures c.in-Number.is c.if-k-ne3.false c.below-flags.ensures c.in-Number-flags.is c.number-place.ensures c.in_default-place.is
-
-pub returns-in_default-first : goal.returns-in_default-first
-returns-in_default-first c = title_name c.below-kind.ensures c.in-Number.is c.if-k-ne3.false c.below-flags.ensures c.in-Number-flags.is c.number-place.ensures c.in-Number-place.is c.name-first.ensures c.in_default-first.is
-
-pub returns : goal.returns
-returns c = title_is c.below-kind.ensures c.in-Number.is c.if-k-ne3.false c.below-flags.ensures c.in-Number-flags.is c.number-place.ensures c.in-Number-place.is c.name-first.ensures c.in-Number-first.is
+pub returns-in_err-name : goal.returns-in_err-name
+returns-in_err-name c =
+    let p = err_from_is_err_and c.from_residual-in_err-name.result c.from_residual-in_err-name.ensures.1 in
+    rw (p.1, p.2) (title_name c.in_ok-kind.ensures c.if-kind-ne3.false c.in_ok-at.ensures c.in_ok-at-2.ensures c.in_err-name.ensures)

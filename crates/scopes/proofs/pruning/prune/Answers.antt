@@ -1,11 +1,8 @@
-use Rattle.scopes.proofs.Becoming.{prune_past, prune_high, prune_early, prune_twice, prune_now}
+use Rattle.scopes.proofs.Becoming.{prune_out, prune_early, prune_twice, prune_now}
 use Rattle.scopes.proofs.pruning.prune.Goals as goal
 
 pub returns-then-k-ge1024 : goal.returns-then-k-ge1024
-returns-then-k-ge1024 c = prune_past c.if-k-ge1024.true
-
-pub returns-then-label-ge1024 : goal.returns-then-label-ge1024
-returns-then-label-ge1024 c = prune_high c.if-label-ge1024.true
+returns-then-k-ge1024 c = prune_out c.then-k-ge1024.either
 
 pub returns-then-word-gt1 : goal.returns-then-word-gt1
 returns-then-word-gt1 c = prune_twice c.word.ensures c.if-word-gt1.true

@@ -1,17 +1,14 @@
-use Rattle.stages.proofs.Deepening.{depth_never, depth_named, depth_import, depth_poison, depth_unread}
+use Rattle.stages.proofs.Deepening.{depth_named, depth_not, depth_unread, depth_never}
 use Rattle.stages.proofs.depths.depth_of.Goals as goal
 
 pub returns-in_default : goal.returns-in_default
-returns-in_default c = depth_never c.below-kind.ensures c.in_default.is
+returns-in_default c = depth_never c.below.ensures c.in_default.is
+
+pub returns-in_default-read_head : goal.returns-in_default-read_head
+returns-in_default-read_head c = depth_unread c.below.ensures c.in-Ok.is c.read_head.ensures c.in_default-read_head.is
 
 pub returns-in-Named : goal.returns-in-Named
-returns-in-Named c = depth_named c.below-kind.ensures c.in-Number.is c.read_head-head.ensures c.in-Named.is c.named_depth.ensures
+returns-in-Named c = depth_named c.below.ensures c.in-Ok.is c.in-Ok-read_head.ensures c.in-Named.is c.named_depth.ensures
 
 pub returns-in-Import : goal.returns-in-Import
-returns-in-Import c = depth_import c.below-kind.ensures c.in-Number.is c.read_head-head.ensures c.in-Import.is
-
-pub returns-in-Poison : goal.returns-in-Poison
-returns-in-Poison c = depth_poison c.below-kind.ensures c.in-Number.is c.read_head-head.ensures c.in-Poison.is
-
-pub returns-in-Unread : goal.returns-in-Unread
-returns-in-Unread c = depth_unread c.below-kind.ensures c.in-Number.is c.read_head-head.ensures c.in-Unread.is
+returns-in-Import c = depth_not c.below.ensures c.in-Ok.is c.in-Ok-read_head.ensures c.in-Import.is

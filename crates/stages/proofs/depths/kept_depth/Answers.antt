@@ -8,7 +8,7 @@ pub returns-in_default : goal.returns-in_default
 returns-in_default c = kept_nowhere c.find_in-found.ensures c.in_default.is
 
 pub returns-then-first-row : goal.returns-then-first-row
-returns-then-first-row c = kept_other c.find_in-found.ensures c.in-At.is c.if-first-row.true
+returns-then-first-row c = kept_other c.find_in-found.ensures c.in-Some.is c.if-first-row.true
 
 pub returns : goal.returns
-returns c = kept_here c.find_in-found.ensures c.in-At.is c.if-first-row.false c.container_depth.ensures
+returns c = kept_here c.find_in-found.ensures c.in-Some.is c.if-first-row.false c.container_depth.ensures

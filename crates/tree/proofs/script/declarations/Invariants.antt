@@ -1,12 +1,11 @@
 use mathlib.Core.Path.{◌≡◌}
 use lib.ListN.{length}
+use Prim.Native.Nat.{◌-◌}
+use Rattle.penne.specs.Reader.{many}
 use Rattle.penne.specs.Read.{read_decl}
 use Rattle.tree.specs.Ends.{Known}
-use Rattle.fields.proofs.Counting.{Listing}
+use Rattle.fields.proofs.Lists.{Listing}
 use Rattle.tree.proofs.script.declarations.Given as goal
 
-abbrev pub invariant-loop-rest : goal.invariant-loop-rest
-invariant-loop-rest l = Listing read_decl l.tree l.names l.count l.initial.so_far l.at l.rest l.so_far l.cur × (length l.ends ≡ length l.initial.ends) × (Known l.tree l.names l.initial.ends → Known l.tree l.names l.ends)
-
-abbrev pub decreases-loop-rest : goal.decreases-loop-rest
-decreases-loop-rest l = l.rest
+abbrev pub invariant-loop-done : goal.invariant-loop-done
+invariant-loop-done l = Listing (many read_decl l.count) read_decl l.tree l.names l.fn.counts l.fn.at (l.count - l.done) l.counts l.at × (length l.ends ≡ length l.initial.ends) × (Known l.tree l.names l.initial.ends → Known l.tree l.names l.ends)

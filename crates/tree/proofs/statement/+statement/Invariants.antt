@@ -1,6 +1,7 @@
+use Prim.Native.Nat.{◌+◌, ◌*◌, ◌-◌}
+use Rattle.penne.specs.Reader.{listed}
 use Rattle.penne.specs.Read.{read_stmt}
-use Rattle.fields.proofs.Counting.{Listing}
-use Prim.Native.Nat.{◌+◌, ◌*◌}
+use Rattle.fields.proofs.Lists.{Listing}
 use Rattle.tree.proofs.statement.+statement.Given as goal
 
 abbrev pub decreases-block : goal.decreases-block
@@ -21,8 +22,5 @@ decreases-statements l = l.left * 4 + 1
 abbrev pub decreases-stmt : goal.decreases-stmt
 decreases-stmt l = l.left * 4 + 0
 
-abbrev pub invariant-statements-loop-rest : goal.invariant-statements-loop-rest
-invariant-statements-loop-rest l = Listing (read_stmt l.left) l.tree l.names l.n l.initial.so_far l.a l.rest l.so_far l.cur
-
-abbrev pub decreases-statements-loop-rest : goal.decreases-statements-loop-rest
-decreases-statements-loop-rest l = l.rest
+abbrev pub invariant-statements-loop : goal.invariant-statements-loop
+invariant-statements-loop l = Listing (listed (read_stmt l.left)) (read_stmt l.left) l.tree l.names l.fn.counts l.fn.at (l.count - l.counter) l.counts l.at

@@ -1,4 +1,4 @@
-use Rattle.walk.proofs.Following.{edge_to_fine, edge_to_poisoned, edge_to_cyclical, edge_told}
+use Rattle.walk.proofs.Following.{edge_to_fine, edge_to_poisoned, edge_to_cyclical}
 use Rattle.walk.proofs.Looking.{edge_not}
 use Rattle.walk.proofs.edges.edge_to.Goals as goal
 
@@ -6,10 +6,10 @@ pub returns-then-work-lt-WORDS : goal.returns-then-work-lt-WORDS
 returns-then-work-lt-WORDS c = edge_not c.if-work-lt-WORDS.true
 
 pub returns-in-Fine : goal.returns-in-Fine
-returns-in-Fine c = edge_to_fine _ c.found_container_1-found.ensures c.in-Fine.is
+returns-in-Fine c = edge_to_fine _ c.found_container_1.ensures c.in-Fine.is
 
 pub returns-in-Poisoned : goal.returns-in-Poisoned
-returns-in-Poisoned c = edge_told c.poisoned.ensures (edge_to_poisoned _ c.found_container_1-found.ensures c.in-Poisoned.is)
+returns-in-Poisoned c = edge_to_poisoned _ c.found_container_1.ensures c.in-Poisoned.is
 
 pub returns-in-Cyclical : goal.returns-in-Cyclical
-returns-in-Cyclical c = edge_to_cyclical _ c.found_container_1-found.ensures c.in-Cyclical.is c.cyclical.ensures
+returns-in-Cyclical c = edge_to_cyclical _ c.found_container_1.ensures c.in-Cyclical.is c.cyclical.ensures

@@ -1,8 +1,9 @@
+use mathlib.Core.Path.{refl}
 use Rattle.walk.proofs.Copying.{spelled_poison, copied, uncopied}
 use Rattle.walk.proofs.items.copy_poison.Goals as goal
 
 pub returns-in_default : goal.returns-in_default
-returns-in_default c = λ l w. uncopied c.poison-end.ensures c.in_default.is
+returns-in_default c = λ l w. uncopied c.poison.ensures c.in_default.is
 
 pub returns : goal.returns
-returns c = λ l w. copied spelled_poison _ c.poison-end.ensures c.in-Number.is c.then_head-x.ensures c.wrote.ensures c.moved.ensures
+returns c = λ l w. copied spelled_poison _ c.poison.ensures c.in-Ok.is c.then_head-st.ensures (record { is = refl }) (record { is = refl })

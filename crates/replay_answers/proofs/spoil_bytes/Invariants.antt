@@ -1,9 +1,0 @@
--- `spoil_bytes` goes through its memory once.
-use Rattle.std.proofs.Common.{◌≡◌, ◌-◌, length}
-use Rattle.replay_answers.proofs.spoil_bytes.Given as goal
-
-abbrev pub invariant-loop-i : goal.invariant-loop-i
-invariant-loop-i l = length l.s ≡ length l.initial.s
-
-abbrev pub decreases-loop-i : goal.decreases-loop-i
-decreases-loop-i l = length l.s - l.i
