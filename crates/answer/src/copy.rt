@@ -55,7 +55,7 @@ impl Wrote {
         self.then_bytes(out, &tree[from..to])
     }
 
-    // The tree's numbers from `from` to `to`, as far as they can be read.
+    // The tree's numbers from `from` to `to`, as far as they can be read. A `while`: a step is as long as the number that is read.
     pub fn then_numbers(self, out: &mut [u8], tree: &[u8], from: usize, to: usize) -> Wrote
         ensures { Put self (renumbered tree.now from to) out.old result out.new }
     {

@@ -43,7 +43,7 @@ impl Wrote {
         }
     }
 
-    // The first numbers of a few, one after another.
+    // The first numbers of a few, one after another. The count stands beside them: a poison's row says how many of a fixed few are written.
     pub fn then_each(self, out: &mut [u8], values: &[u32], count: usize) -> Wrote
         ensures { Put self (flat_map num_b (take count values.now)) out.old result out.new }
     {

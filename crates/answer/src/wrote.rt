@@ -3,6 +3,7 @@ ghost use Rattle.std.specs.Prelude.{[]};
 ghost use Rattle.answer.specs.Out.{Put};
 
 // So many bytes (of the list: words), or more than there is room for: after that nothing is written any more.
+// An enum of its own: the writers are its methods, and `Option` takes none of ours. No `Result`: no room is no failure here, the writers behind it go on and write nothing.
 #[derive(Clone, Copy)]
 pub enum Wrote {
     Bytes(usize),

@@ -13,7 +13,7 @@ use Rattle.penne.specs.Find.{is_in}
 use Rattle.penne.specs.Containers.{Container, Containment, id_of, with_containers, push_container}
 use Rattle.containers.specs.declared.containers.Declared.{Declared}
 use Rattle.containers.specs.Table.{no_ident, at, id_at, ids_at, kind_of, IsRow, Known, Sets, is_edge, Edges, contained_in, edges_in, Holds}
-use Rattle.containers.specs.Calls.{Says, New, Pushes, Tells}
+use Rattle.containers.specs.Calls.{read_at, written_at, Says, New, Pushes, Tells}
 use Rattle.containers.specs.Functions.{function_at, IsFunction, HoldsFunctions, PushesFunction, TellsFunction}
 use Rattle.containers.proofs.Lists.{true_not_false, false_is, in_none, at_before, at_last, id_before, id_last, ids_before, ids_last}
 use Rattle.containers.proofs.Parts.{word_long, word_same, word_other, word_contained, word_edges}
@@ -122,9 +122,9 @@ module _ {row : ℕ} (cs : List (Container Spot)) (c : Container Spot) (count : 
 pub pushes_none : {row kind : ℕ} {d : Declared} {w : List ℕ} → 128 ≤ row → Pushes row kind d w w
 pushes_none h = record { long = refl; pushes = λ s o l. absurd (omega arith) }
 
-pub pushes_is : {row kind : ℕ} {d : Declared} {w w₁ w₂ w₃ w₄ w₅ : List ℕ} → w₁ ≡ set w (0 + row) d.name → w₂ ≡ set w₁ (128 + row) d.place → w₃ ≡ set w₂ (256 + row) d.id → w₄ ≡ set w₃ (384 + row) kind → w₅ ≡ set w₄ (512 + row) 0 → Pushes row kind d w w₅
+pushes_by : {row kind : ℕ} {d : Declared} {w w₁ w₂ w₃ w₄ w₅ : List ℕ} → w₁ ≡ set w (0 + row) d.name → w₂ ≡ set w₁ (128 + row) d.place → w₃ ≡ set w₂ (256 + row) d.id → w₄ ≡ set w₃ (384 + row) kind → w₅ ≡ set w₄ (512 + row) 0 → Pushes row kind d w w₅
 unfolding push_container with_containers id_of
-pushes_is {row} {kind} {d} {w} {w₁} {w₂} {w₃} {w₄} {w₅} e₁ e₂ e₃ e₄ e₅ = record { long = written_long w row d.name d.place d.id kind e₁ e₂ e₃ e₄ e₅; pushes = go }
+pushes_by {row} {kind} {d} {w} {w₁} {w₂} {w₃} {w₄} {w₅} e₁ e₂ e₃ e₄ e₅ = record { long = written_long w row d.name d.place d.id kind e₁ e₂ e₃ e₄ e₅; pushes = go }
   where
     go : (s : Containment Spot) → Holds row w s → row < 128 → (i : Ident Spot) → Says d i → New i.id row s.containers → (structure : Bool) → kind ≡ kind_of structure → Holds (row + 1) w₅ (push_container structure i s)
     go s o few i says new structure ek =
@@ -150,13 +150,16 @@ pushes_is {row} {kind} {d} {w} {w₁} {w₂} {w₃} {w₄} {w₅} e₁ e₂ e₃
             subst (λ (x : Container Spot). IsRow w₅ r x) (sym (ap (at (s.containers ++ (c ∷ []))) e ∙ at_last s.containers c))
             (subst (λ (k : ℕ). IsRow w₅ k c) (sym z) (written_here w row d.name d.place d.id kind e₁ e₂ e₃ e₄ e₅ c o.long few says.name says.place says.id ek refl))
 
+pub pushes_is : {row kind : ℕ} {d : Declared} {w w₃ w₄ w₅ : List ℕ} → w₃ ≡ written_at (0 + row) (128 + row) (256 + row) d w → w₄ ≡ set w₃ (384 + row) kind → w₅ ≡ set w₄ (512 + row) 0 → Pushes row kind d w w₅
+pushes_is e = pushes_by refl refl e
+
 -- container
 
 pub tells_none : {row : ℕ} {w : List ℕ} {d : Declared} → 128 ≤ row → Tells row w d
 tells_none h = record { tells = λ s count o l. let few = o.few in absurd (omega arith) }
 
-pub tells_is : {row : ℕ} {w : List ℕ} {x y z : ℕ} → x ≡ get_or w (0 + row) 0 → y ≡ get_or w (128 + row) 0 → z ≡ get_or w (256 + row) 0 → Tells row w (record { name = x; place = y; id = z })
-tells_is {row} a b c = record { tells = λ s count o l. let r = o.rows row l in record { name = a ∙ r.name; place = b ∙ r.place; id = c ∙ r.id } }
+pub tells_is : {row : ℕ} {w : List ℕ} {d : Declared} → d ≡ read_at (0 + row) (128 + row) (256 + row) w → Tells row w d
+tells_is {row} e = record { tells = λ s count o l. let r = o.rows row l in rw e (record { name = r.name; place = r.place; id = r.id }) }
 
 -- FUNCTIONS
 
@@ -187,9 +190,9 @@ module _ (w : List ℕ) {w₁ w₂ w₃ : List ℕ} (row n p i : ℕ) (a : w₁ 
 pub function_pushes_none : {row : ℕ} {d : Declared} {w : List ℕ} → 256 ≤ row → PushesFunction row d w w
 function_pushes_none h = record { long = refl; pushes = λ fs o l. absurd (omega arith) }
 
-pub function_pushes : {row : ℕ} {d : Declared} {w w₁ w₂ w₃ : List ℕ} → w₁ ≡ set w (0 + row) d.name → w₂ ≡ set w₁ (256 + row) d.place → w₃ ≡ set w₂ (512 + row) d.id → PushesFunction row d w w₃
+function_pushes_by : {row : ℕ} {d : Declared} {w w₁ w₂ w₃ : List ℕ} → w₁ ≡ set w (0 + row) d.name → w₂ ≡ set w₁ (256 + row) d.place → w₃ ≡ set w₂ (512 + row) d.id → PushesFunction row d w w₃
 unfolding function_at
-function_pushes {row} {d} {w} {w₁} {w₂} {w₃} e₁ e₂ e₃ = record { long = function_long w row d.name d.place d.id e₁ e₂ e₃; pushes = go }
+function_pushes_by {row} {d} {w} {w₁} {w₂} {w₃} e₁ e₂ e₃ = record { long = function_long w row d.name d.place d.id e₁ e₂ e₃; pushes = go }
   where
     one : (fs : List (Ident Spot)) → HoldsFunctions row w fs → row < 256 → (i : Ident Spot) → Says d i → (r : ℕ) → r < row + 1 → Dec (r < row) → IsFunction w₃ r (function_at (fs ++ (i ∷ [])) r)
     one fs o few i says r h (yes q) = let count = o.counted in subst (λ (x : Ident Spot). IsFunction w₃ r x) (sym (get_or-append fs (i ∷ []) no_ident r (omega arith))) (function_before w row d.name d.place d.id e₁ e₂ e₃ r _ q few (o.rows r q))
@@ -208,8 +211,11 @@ function_pushes {row} {d} {w} {w₁} {w₂} {w₃} e₁ e₂ e₃ = record { lon
       rows = λ r h. one fs o few i says r h (dec_lt r row);
     }
 
+pub function_pushes : {row : ℕ} {d : Declared} {w w₃ : List ℕ} → w₃ ≡ written_at (0 + row) (256 + row) (512 + row) d w → PushesFunction row d w w₃
+function_pushes e = function_pushes_by refl refl e
+
 pub function_tells_none : {row : ℕ} {w : List ℕ} {d : Declared} → 256 ≤ row → TellsFunction row w d
 function_tells_none h = record { tells = λ fs count o l. let few = o.few in absurd (omega arith) }
 
-pub function_tells : {row : ℕ} {w : List ℕ} {x y z : ℕ} → x ≡ get_or w (0 + row) 0 → y ≡ get_or w (256 + row) 0 → z ≡ get_or w (512 + row) 0 → TellsFunction row w (record { name = x; place = y; id = z })
-function_tells {row} a b c = record { tells = λ fs count o l. let r = o.rows row l in record { name = a ∙ r.name; place = b ∙ r.place; id = c ∙ r.id } }
+pub function_tells : {row : ℕ} {w : List ℕ} {d : Declared} → d ≡ read_at (0 + row) (256 + row) (512 + row) w → TellsFunction row w d
+function_tells {row} e = record { tells = λ fs count o l. let r = o.rows row l in rw e (record { name = r.name; place = r.place; id = r.id }) }

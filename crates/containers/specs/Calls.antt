@@ -1,5 +1,5 @@
 -- What the calls do, by the definitions. Each promise is about a table that holds the containers of some state.
-use Rattle.std.specs.Prelude.{ℕ, ◌+◌, ◌≤◌, ◌<◌, ◌≡◌, Bool, true, false, ◌&&◌, List, [], eqb, ltb, leb, length, get_or, take}
+use Rattle.std.specs.Prelude.{ℕ, ◌+◌, ◌≤◌, ◌<◌, ◌≡◌, Bool, true, false, ◌&&◌, List, [], eqb, ltb, leb, length, get_or, set, take}
 use Rattle.std.proofs.Math.Option.{Option, none, some}
 use Rattle.memory.specs.Rows.{member}
 use Rattle.penne.specs.Tree.{Spot, Ident, Maybe, ok, err, poison}
@@ -17,6 +17,13 @@ pub record Says (d : Declared) (i : Ident Spot) : Type 0 where
   pub name : d.name ≡ i.name
   pub place : d.place ≡ i.place.number
   pub id : d.id ≡ i.id
+
+-- what three words of a table say, and the table where they say it of d
+abbrev pub read_at : (name place id : ℕ) → List ℕ → Declared
+read_at name place id w = record { name = get_or w name 0; place = get_or w place 0; id = get_or w id 0 }
+
+abbrev pub written_at : (name place id : ℕ) → Declared → List ℕ → List ℕ
+written_at name place id d w = set (set (set w name d.name) place d.place) id d.id
 
 -- i is no container's id yet
 pub record New (i : ℕ) (count : ℕ) (cs : List (Container Spot)) : Type 0 where

@@ -1,6 +1,6 @@
 // `containers` of variable_references.rs. A table is the part CONTAINERS of the work words; a container is known by its row, in predeclaration order.
 ghost use Rattle.std.specs.Prelude.{◌≡◌};
-ghost use Rattle.containers.specs.Calls.{Pushes, Tells, row_is, Finds, FollowsRows, constant_in, FindsConstant};
+ghost use Rattle.containers.specs.Calls.{read_at, written_at, Pushes, Tells, row_is, Finds, FollowsRows, constant_in, FindsConstant};
 ghost use Rattle.containers.specs.Bits.{HandsTo, HandsOn, TakesIn};
 
 use memory::layout::{
@@ -18,11 +18,31 @@ pub struct Declared {
     pub id: u32,
 }
 
-pub(crate) const NONE_DECLARED: Declared = Declared {
-    name: 0,
-    place: 0,
-    id: 0,
-};
+impl Declared {
+    pub const NONE: Declared = Declared {
+        name: 0,
+        place: 0,
+        id: 0,
+    };
+
+    pub(crate) fn read(table: &[u32], name: usize, place: usize, id: usize) -> Declared
+        ensures { result ≡ read_at name place id table.now }
+    {
+        Declared {
+            name: word(table, name),
+            place: word(table, place),
+            id: word(table, id),
+        }
+    }
+
+    pub(crate) fn write(self, table: &mut [u32], name: usize, place: usize, id: usize)
+        ensures { table.new ≡ written_at name place id self table.old }
+    {
+        set_word(table, name, self.name);
+        set_word(table, place, self.place);
+        set_word(table, id, self.id);
+    }
+}
 
 // What becomes of an edge.
 #[derive(Clone, Copy)]
@@ -40,9 +60,12 @@ pub fn push_container(table: &mut [u32], row: usize, kind: u32, declared: Declar
     if 128 <= row {
         return;
     }
-    set_word(table, CONTAINER_NAME + row, declared.name);
-    set_word(table, CONTAINER_PLACE + row, declared.place);
-    set_word(table, CONTAINER_ID + row, declared.id);
+    declared.write(
+        table,
+        CONTAINER_NAME + row,
+        CONTAINER_PLACE + row,
+        CONTAINER_ID + row,
+    );
     set_word(table, CONTAINER_KIND + row, kind);
     set_word(table, CONTAINER_DEPTH + row, 0);
 }
@@ -52,13 +75,14 @@ pub fn container(table: &[u32], row: usize) -> Declared
     ensures { Tells row table.now result }
 {
     if 128 <= row {
-        return NONE_DECLARED;
+        return Declared::NONE;
     }
-    Declared {
-        name: word(table, CONTAINER_NAME + row),
-        place: word(table, CONTAINER_PLACE + row),
-        id: word(table, CONTAINER_ID + row),
-    }
+    Declared::read(
+        table,
+        CONTAINER_NAME + row,
+        CONTAINER_PLACE + row,
+        CONTAINER_ID + row,
+    )
 }
 
 // The first of that kind and name among so many.

@@ -2,9 +2,9 @@
 ghost use Rattle.std.specs.Prelude.{◌≡◌};
 ghost use Rattle.containers.specs.Functions.{PushesFunction, TellsFunction, function_is, FindsFunction};
 
-use super::containers::{Declared, NONE_DECLARED};
+use super::containers::Declared;
 use memory::layout::{FUNCTION_ID, FUNCTION_NAME, FUNCTION_PLACE};
-use memory::words::{set_word, word};
+use memory::words::word;
 
 #[tactic(auto, using(crate::proofs::Pushing::function_pushes_none, crate::proofs::Pushing::function_pushes))]
 pub fn push_function(table: &mut [u32], row: usize, declared: Declared)
@@ -13,9 +13,12 @@ pub fn push_function(table: &mut [u32], row: usize, declared: Declared)
     if 256 <= row {
         return;
     }
-    set_word(table, FUNCTION_NAME + row, declared.name);
-    set_word(table, FUNCTION_PLACE + row, declared.place);
-    set_word(table, FUNCTION_ID + row, declared.id);
+    declared.write(
+        table,
+        FUNCTION_NAME + row,
+        FUNCTION_PLACE + row,
+        FUNCTION_ID + row,
+    );
 }
 
 #[tactic(auto, using(crate::proofs::Pushing::function_tells_none, crate::proofs::Pushing::function_tells))]
@@ -23,13 +26,14 @@ pub fn function(table: &[u32], row: usize) -> Declared
     ensures { TellsFunction row table.now result }
 {
     if 256 <= row {
-        return NONE_DECLARED;
+        return Declared::NONE;
     }
-    Declared {
-        name: word(table, FUNCTION_NAME + row),
-        place: word(table, FUNCTION_PLACE + row),
-        id: word(table, FUNCTION_ID + row),
-    }
+    Declared::read(
+        table,
+        FUNCTION_NAME + row,
+        FUNCTION_PLACE + row,
+        FUNCTION_ID + row,
+    )
 }
 
 // The first of that name among so many.

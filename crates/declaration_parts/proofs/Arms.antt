@@ -1,5 +1,5 @@
 -- A declaration along the decoder: by its kind, dropped, or begun.
-use mathlib.Core.Path.{◌≡◌, refl, sym, ap, subst, ◌∙◌}
+use mathlib.Core.Path.{◌≡◌, refl, sym, ap, ◌∙◌}
 use mathlib.Core.Bool.{true}
 use mathlib.Core.List.{List, ◌++◌}
 use Prim.Native.Nat.{ℕ, ◌+◌, ◌-◌, ◌<◌}
@@ -26,10 +26,10 @@ use Rattle.containers.proofs.Lists.{and_true}
 use Rattle.label_references.specs.Marked.{marked_decl}
 use Rattle.walk.specs.declared.state.Walk.{Walk}
 use Rattle.walk.specs.declared.fault.Fault.{Fault}
-use Rattle.walk.specs.Walking.{here, Moves, Writes, Counted, Ground, Good, Marks, Leads, Walks, fault_b, made_b}
+use Rattle.walk.specs.Walking.{moved_to, with_wrote, with_counts, here, Ground, Good, Leads, Walks, fault_b, made_b}
 use Rattle.fields.proofs.Back.{forget_refused}
 use Rattle.walk.proofs.Leading.{walks, such_got, leads_refused, leads_counting}
-use Rattle.walk.proofs.Writing.{here_moved, here_after, moved, wrote}
+use Rattle.walk.proofs.Writing.{moved_on, wrote, wrote_on}
 use Rattle.walk.proofs.Writing as W
 use Rattle.stages.specs.declared.heads.Start.{Start}
 use Rattle.declaration_parts.specs.Declaring.{fit_decl, predeclared_by, behind, decl_walk}
@@ -69,12 +69,12 @@ good_decl d a z = (record { few = omega (arith, z.few, (still_decl a.rest.names 
 
 -- STARTED
 
-pub started_is : {t : List ℕ} {kind flags : ℕ} {h : Start} {i : Identifier} {s : Walk} {x y z v : Wrote} {o o₁ o₂ o₃ o₄ : List ℕ} {s₁ r : Walk} → Put s.wrote (num_b kind) o x o₁ → Put x (num_b flags) o₁ y o₂ → Put y (renumbered t h.places h.from) o₂ z o₃ → Put z (made_b i) o₃ v o₄
-    → Writes s v s₁ → Moves s₁ h.parts r → Starts t kind flags h i s o r o₄
-started_is {h = h} p₁ p₂ p₃ p₄ wr mv = record {
-  cur = here_after wr mv;
-  script = ap (λ (u : Walk). u.script) mv.is ∙ ap (λ (u : Walk). u.script) wr.is;
-  is = λ i. moved (wrote i (p₁ ▸ (p₂ ▸ (p₃ ▸ p₄))) wr) mv;
+pub started_is : {t : List ℕ} {kind flags : ℕ} {h : Start} {i : Identifier} {s : Walk} {x y z v : Wrote} {o o₁ o₂ o₃ o₄ : List ℕ} → Put s.wrote (num_b kind) o x o₁ → Put x (num_b flags) o₁ y o₂ → Put y (renumbered t h.places h.from) o₂ z o₃ → Put z (made_b i) o₃ v o₄
+    → Starts t kind flags h i s o (moved_to (with_wrote s v) h.parts) o₄
+started_is p₁ p₂ p₃ p₄ = record {
+  cur = refl;
+  script = refl;
+  is = λ i. wrote_on i (p₁ ▸ (p₂ ▸ (p₃ ▸ p₄)));
 }
 
 -- DROPPED
@@ -83,28 +83,27 @@ module _ (f : Fault) {t : List ℕ} {s : Walk} {p : Result (ℕ × K.Counts) Ref
   pub drop_unread : {x : Refusal} {r : Walk} {o' : List ℕ} → p ≡ Err x → Walks t read_decl (drop_walk f) s o l w r o' l w
   drop_unread e = walks λ h a i. leads_refused (forget_refused _ _ _ (g.is ∙ ap (passed_of s.script.names) e))
 
-  pub drop_passed : {n : ℕ} {k : K.Counts} {x : Wrote} {o' : List ℕ} {s₁ s₂ r : Walk} → p ≡ Ok (n, k) → Put s.wrote (num_b 5 ++ fault_b f) o x o' → Writes s x s₁ → Counted s₁ k s₂ → Moves s₂ n r → Walks t read_decl (drop_walk f) s o l w r o' l w
+  pub drop_passed : {n : ℕ} {k : K.Counts} {x : Wrote} {o' : List ℕ} → p ≡ Ok (n, k) → Put s.wrote (num_b 5 ++ fault_b f) o x o' → Walks t read_decl (drop_walk f) s o l w (moved_to (with_counts (with_wrote s x) k) n) o' l w
   unfolding drop_walk behind
-  drop_passed {n} {k} {s₁ = s₁} e put wr co mv = walks λ h a i. record {
+  drop_passed {n} {k} e put = walks λ h a i. record {
     to = λ d c q.
         let c₁ : cursor n s.script.names (counts_of k) ≡ c = sym (passed_to _ (g.is ∙ ap (passed_of s.script.names) e) q) in
         let z : Passing (here s) (cursor n s.script.names (counts_of k)) d = passing t (here s) (q ∙ ap (got d) (sym c₁)) in
         let all = a.rest.labels in
         let os = a.rest.words in
-        let s_counts : s₁.counts ≡ s.counts = ap (λ (u : Walk). u.counts) wr.is in
         let up = z.statements in
         record {
-          cur = sym c₁ ∙ sym (here_moved mv ∙ ap (λ (u : Walk). cursor n u.script.names (counts_of u.counts)) co.is ∙ ap (λ (u : Walk). cursor n u.script.names (counts_of k)) wr.is);
-          is = moved (W.counted (wrote i put wr) (behind d (marked_decl all d os).1 (fit_decl a d) a.rest) (omega (arith, z.entries, ap (λ (u : K.Counts). u.entries) s_counts)) refl refl refl (λ y. (and_true a.rest.fit (fit_decl a d) y).0)
-              (λ y m. let m₁ : Marks s.counts w a.rest = subst (λ (u : K.Counts). Marks u w a.rest) s_counts m in record {
+          cur = sym c₁;
+          is = moved_on (W.counted (wrote i put) (behind d (marked_decl all d os).1 (fit_decl a d) a.rest) (omega (arith, z.entries)) refl refl refl (λ y. (and_true a.rest.fit (fit_decl a d) y).0)
+              (λ y m. record {
                 told = λ j lt.
                     let back : s.counts.statements + ((k.statements + j) - s.counts.statements) ≡ k.statements + j = omega arith in
-                    ap (λ (u : ℕ). get_or w u 0) (sym back) ∙ m₁.told ((k.statements + j) - s.counts.statements) (omega arith) ∙ sym (z.words all os j ((k.statements + j) - s.counts.statements) (sym back));
-                named = m₁.named;
-                labels = m₁.labels;
-                containers = omega (arith, z.containers, m₁.containers);
-                functions = omega (arith, z.functions, m₁.functions);
-                main = m₁.main;
-              }) co) mv;
+                    ap (λ (u : ℕ). get_or w u 0) (sym back) ∙ m.told ((k.statements + j) - s.counts.statements) (omega arith) ∙ sym (z.words all os j ((k.statements + j) - s.counts.statements) (sym back));
+                named = m.named;
+                labels = m.labels;
+                containers = omega (arith, z.containers, m.containers);
+                functions = omega (arith, z.functions, m.functions);
+                main = m.main;
+              }));
         };
   }

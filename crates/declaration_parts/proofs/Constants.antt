@@ -3,10 +3,10 @@ use mathlib.Core.Path.{◌≡◌, refl, sym, ap, subst, ◌∙◌}
 use mathlib.Core.Bool.{true, false}
 use mathlib.Core.List.{List, ◌++◌, append_assoc}
 use mathlib.Core.Option.{Option, none, some}
-use Prim.Native.Nat.{ℕ, ◌+◌, ◌<◌}
+use Prim.Native.Nat.{ℕ, ◌<◌}
 use native.Mathlib.Omega.{arith}
 use lib.ListN.{length, take}
-use Rattle.std.specs.Prelude.{None}
+use Rattle.std.specs.Prelude.{Some, None}
 use Rattle.penne.specs.Tree.{Spot, Ident, Maybe, Ty, expr, Expr, Decl, constant}
 use Rattle.penne.specs.Read.{maybe, read, read_ty}
 use Rattle.penne.specs.Write.{num_b, place_b, ident_b, node_b, maybe_b, ty_b, decl_b}
@@ -62,7 +62,7 @@ unfolding ident_b place_b identifier_b resolved
 own_bytes h auth id = refl
 
 pub constant_arm : {t : List ℕ} {h : Start} (p q : Spot) {row : ℕ} {j : Declared} {i' : Identifier} {s s₁ s₂ s₃ s₄ r : Walk} {o o₁ o₂ o₃ l l₂ w w₂ w₃ : List ℕ} → renumbered t h.places h.from ≡ place_b p ++ place_b q → ContainerAt row w j → i' ≡ resolved_to h.identifier j.id 1
-    → Starts t 0 h.flags h i' s o s₁ o₁ → Constexpr s₁ (row + 1) s₂ → Walks t (read 63 expr) (onward analyze_node node_b) s₂ o₁ l w s₃ o₂ l₂ w₂ → Constexpr s₃ 0 s₄
+    → Starts t 0 h.flags h i' s o s₁ o₁ → Constexpr s₁ (Some row) s₂ → Walks t (read 63 expr) (onward analyze_node node_b) s₂ o₁ l w s₃ o₂ l₂ w₂ → Constexpr s₃ None s₄
     → Contains t (maybe (read_ty 63 true)) (record { row = row; member = None }) s₄ o₂ l₂ w₂ r o₃ l₂ w₃ → Arm (NewContainer false row (own h)) (begun_container (own h)) t (constant_parts h.flags p q (own h)) h.parts s o l w r o₃ l₂ w₃
 unfolding constant_parts begun_container counting fit_decl in_constexpr_of with_containment id_at id_of
 constant_arm {t} {h} p q {row} {j} {i'} {s} {s₁} e ca rs st c₁ ex c₂ ct = record {
@@ -75,12 +75,12 @@ constant_arm {t} {h} p q {row} {j} {i'} {s} {s₁} e ca rs st c₁ ex c₂ ct = 
       let rows : Good b → Row cs a.rest.containers (own h) = λ z. row_is cs a.rest.containers (own h) (fits z).1 in
       let low : Good b → row < length cs = λ z. omega (arith, (rows z).low, (new z).stands) in
       let high : Good b → row < s.script.containers = λ z. omega (arith, low z, (i.when z).tables.containers.counted) in
-      let i₂ = c₁.is (st.is i) (some c) (λ z. somebody row refl (omega (arith, high (record { few = z.few; fit = z.fit }), ap (λ (u : _). u.containers) st.script)) refl) (λ z _. (clear_is a.st (fits (record { few = z.few; fit = z.fit })).0).bare) in
+      let i₂ = c₁.is (st.is i) (some c) (λ z. somebody row refl (omega (arith, high (record { few = z.few; fit = z.fit }), ap (λ (u : _). u.containers) st.script)) refl) (λ z _ _. (clear_is a.st (fits (record { few = z.few; fit = z.fit })).0).bare) in
       leads_at (c₁.cur ∙ st.cur) (leads_call _ ex inp i₂ λ x g i₃.
       let a₃ : Analyzer Spot = in_constexpr_of (some c) a.st in
       let g₄ : Ground = within none (onward analyze_node node_b x (within (some c) (say xs b))) in
       let back : Good g₄ → Good b = λ z. record { few = omega (arith, z.few, (still_node x a₃).takes.lower); fit = z.fit } in
-      let i₄ = c₂.is i₃ none (λ z. nobody refl) (λ z y. absurd (omega arith)) in
+      let i₄ = c₂.is i₃ none (λ z. nobody refl) (λ z r y. absurd (let v : ◌≡◌ {A = ℕ} 0 1 = cc in omega arith)) in
       let k = ct.does inp c none (no_member refl) g₄ (λ z. omega (arith, high (back z), ap (λ (u : _). u.containers) (i₄.when z).script, ap (λ (u : _). u.containers) (i.when (back z)).script)) (λ z. (rowed_node x a₃).is.same row (low (back z))) i₄ in
       leads_at c₂.cur (leads_bind (maybe (read_ty 63 true)) _ λ y d g₂. let z = k.to y d g₂ in leads_got (constant h.flags p q (own h) x y) (record {
         cur = z.cur;

@@ -3,7 +3,6 @@ pub mod Dropping
 pub mod Fitting
 pub mod Rowing
 pub mod Constants
-pub mod Importing
 pub mod Flags
 pub mod Structures
 pub mod Functions

@@ -11,9 +11,9 @@ ghost use Rattle.stages.specs.Heads.{own};
 ghost use Rattle.declaration_parts.specs.Heading.{drop_walk, begun_container, begun_function, NewContainer, NewFunction, Arm, constant_parts, head_parts, structure_parts, Starts, MainFlag};
 
 use entries::{members, parameters};
+use expression_parts::copy_text;
 use expressions::expression;
-use fields::field::{Identifier, raw};
-use fields::number::number;
+use fields::field::Identifier;
 use stages::heads::Start;
 use tree::declaration::declaration as past_declaration;
 use types::{contained_type, maybe_type};
@@ -78,9 +78,9 @@ pub fn constant(
         ..h.identifier
     };
     started(tree, answer, st, 0, h.flags, h, i);
-    st.in_constexpr_of(row + 1);
+    st.in_constexpr_of(Some(row));
     expression(tree, answer, list, work, st, 63);
-    st.in_constexpr_of(0);
+    st.in_constexpr_of(None);
     let holder = Holder {
         row: row as usize,
         member: None,
@@ -149,19 +149,5 @@ pub fn structure(
 pub fn import(tree: &[u8], answer: &mut [u8], st: &mut Walk)
     ensures { (l w : List ℕ) → Walks tree.now read_import (λ d a. say (decl_b d) a) st.old answer.old l w st.new answer.new l w }
 {
-    let Ok((length, text)) = number(tree, st.at) else {
-        return;
-    };
-    let Ok(behind) = raw(tree, text, length) else {
-        return;
-    };
-    let Ok((place, next)) = number(tree, behind) else {
-        return;
-    };
-    st.wrote = st
-        .wrote
-        .then_head(answer, 4, tree, st.at, text)
-        .then_copy(answer, tree, text, behind)
-        .then_number(answer, place);
-    st.at = next;
+    copy_text(tree, answer, st, 4);
 }

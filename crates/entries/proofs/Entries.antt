@@ -30,7 +30,7 @@ use Rattle.walk.specs.declared.fault.Fault.{Fault}
 use Rattle.walk.specs.Walking.{moved_to, with_wrote, with_counts, here, Rest, Marks, Ground, Good, Is, onward, silently, say, say_poison, Leads, Input, Walks, fault_b, made_b, Naming}
 use Rattle.walk.specs.Calls.{DeclaresBy}
 use Rattle.walk.proofs.Leading.{leads_unpassed, leads_bind, leads_got, leads_call, leads_counting, is_same, leads_at}
-use Rattle.walk.proofs.Writing.{moved, wrote}
+use Rattle.walk.proofs.Writing.{moved_on, wrote, wrote_on}
 use Rattle.walk.proofs.Writing as Writing
 use Rattle.walk.proofs.Choosing.{leads_unmaybe, leads_ok, leads_err}
 use Rattle.walk.proofs.Identifying.{identified_low}
@@ -65,7 +65,7 @@ module _ {kind : ℕ} {t : List ℕ} {s : Walk} {r₁ : Result (Identifier × �
           let m = naming k q₁ q₂ h l a out few room i in
           let fine = λ (z : _). made_used (m.made z) refl in
           leads_name g e (record {
-            did = record { cur = sym (ap (λ (c : Cur). cursor n c.names c.counts) m.cur); is = is_same (λ z. name_fine kind y a (fine (record { few = z.few; fit = z.fit }))) (moved (wrote m.is put (record { is = refl })) (record { is = refl })) };
+            did = record { cur = sym (ap (λ (c : Cur). cursor n c.names c.counts) m.cur); is = is_same (λ z. name_fine kind y a (fine (record { few = z.few; fit = z.fit }))) (wrote_on m.is put) };
             told = λ z. subst (λ (d : Maybe Spot (Ident Spot)). Names (Some made.place) d) (sym (fine (record { few = z.few; fit = z.fit }))) (named refl);
           });
     }
@@ -77,7 +77,7 @@ module _ {kind : ℕ} {t : List ℕ} {s : Walk} {r₁ : Result (Identifier × �
           let y = ident_of s.at j in
           let m = naming k q₁ q₂ h l a out few room i in
           leads_name g e (record {
-            did = record { cur = sym (ap (λ (c : Cur). cursor n c.names c.counts) m.cur); is = is_same (λ z. let b = made_refused (m.made (record { few = z.few; fit = z.fit })) refl in name_bad kind y a f b.1 b.2) (moved (wrote m.is put (record { is = refl })) (record { is = refl })) };
+            did = record { cur = sym (ap (λ (c : Cur). cursor n c.names c.counts) m.cur); is = is_same (λ z. let b = made_refused (m.made (record { few = z.few; fit = z.fit })) refl in name_bad kind y a f b.1 b.2) (wrote_on m.is put) };
             told = λ z. let b = made_refused (m.made (record { few = z.few; fit = z.fit })) refl in subst (λ (d : Maybe Spot (Ident Spot)). Names None d) (sym b.1) nameless;
           });
     }
@@ -165,7 +165,7 @@ module _ {t : List ℕ} (s : Walk) {m₁ : Result (ℕ × ℕ) Refusal} (g : Giv
         unfolding place_b
         is_entry {w = w} {a} i =
             let d = more c u f in
-            moved (Writing.counted (wrote i put (record { is = refl })) a.rest (omega (arith, d.entries)) refl refl refl (λ y. y) (λ y m. marks_on d m) (record { is = refl })) (record { is = refl })
+            moved_on (Writing.counted (wrote i put) a.rest (omega (arith, d.entries)) refl refl refl (λ y. y) (λ y m. marks_on d m))
 
         module _ {m₂ : Result (ℕ × ℕ) Refusal} (tag : Gives (below 2) t n m₂) {tg : ℕ} (z : m₂ ≡ Ok (tg, n₂)) where
           pub entry_nameless : {kind : ℕ} {r : Walk} {o' w : List ℕ} → (tg ≡ 0 → ⊥) → ((l w : List ℕ) → Walks t read_poison (say_poison 1) (behind x n₂) o₁ l w r o' l w) → NamesEntry kind t s o w r None o' w

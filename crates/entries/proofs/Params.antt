@@ -31,7 +31,7 @@ use Rattle.walk.specs.Calls.{the_member}
 use Rattle.entries.specs.Entering.{Stays, stays, goes, held_by, Decides}
 use Rattle.walk.proofs.Loops.{Kept, kept_more}
 use Rattle.walk.proofs.Leading.{leads_bind, leads_read, leads_unread, leads_call, leads_end, leads_got, is_same, bind_is, leads_at}
-use Rattle.walk.proofs.Writing.{moved, wrote}
+use Rattle.walk.proofs.Writing.{wrote_on}
 use Rattle.types.specs.Typing.{analyze_contained, Contains}
 use Rattle.entries.specs.Entering.{Outside, InStructure, Under, param_walk, member_walk, analyze_held, TypesMember, Names, named, nameless, place_and_name, placed_b, NamesEntry}
 use Rattle.entries.proofs.Staying.{inside_name, outside_param, inside_member}
@@ -234,7 +234,7 @@ module _ {P : Ground → Type 0} (p : Param Spot → Pass Spot (Param Spot)) (m 
   list_walked {n} says e put k = record {
     does = λ h a q i. leads_read _ (reads g) e (record {
       to = λ xs d j.
-          let z = (k.does h (say (num_b n) a) (λ y. says a (say (num_b n) a) refl (q (record { few = y.few; fit = y.fit }))) (moved (wrote i put (record { is = refl })) (record { is = refl }))).to xs d j in
+          let z = (k.does h (say (num_b n) a) (λ y. says a (say (num_b n) a) refl (q (record { few = y.few; fit = y.fit }))) (wrote_on i put)).to xs d j in
           record { cur = z.cur; is = is_same (λ _. list_is p n xs a (many_length m n t _ j)) z.is };
     });
   }

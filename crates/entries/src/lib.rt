@@ -92,7 +92,7 @@ fn declared(
     }
 }
 
-// The members of the structure in that row.
+// The members of the structure in that row. Beside `parameters`: it reads and promises something else.
 pub fn members(tree: &[u8], answer: &mut [u8], work: &mut [u32], st: &mut Walk, row: u32)
     ensures { (c : Ident Spot) (l : List ℕ) → Under (InStructure row c) tree.now (listed (read_param 63 true)) (members_walk c) st.old answer.old l work.old st.new answer.new l work.new }
 {
@@ -106,6 +106,7 @@ pub fn members(tree: &[u8], answer: &mut [u8], work: &mut [u32], st: &mut Walk, 
     }
 }
 
+// Beside `parameter`: a member's type has edges.
 fn member(tree: &[u8], answer: &mut [u8], work: &mut [u32], st: &mut Walk, row: u32)
     ensures { (c : Ident Spot) (l : List ℕ) → Under (InStructure row c) tree.now (read_param 63 true) (member_walk c) st.old answer.old l work.old st.new answer.new l work.new }
 {

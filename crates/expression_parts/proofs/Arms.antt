@@ -2,9 +2,9 @@
 use mathlib.Core.Path.{◌≡◌}
 use mathlib.Core.List.{List, ◌++◌, append_assoc}
 use Prim.Native.Nat.{ℕ}
-use Rattle.penne.specs.Tree.{Spot, Ident, Maybe, Ty, Carried, ref, step, item, one, Node, Expr, binary, unary, boolean, string, structural, parenthesized, deref, bit_cast, length_of_array, reference, element, member, member_expression}
+use Rattle.penne.specs.Tree.{Spot, Ident, Maybe, Ty, Carried, ref, step, item, one, Node, Expr, binary, unary, boolean, structural, parenthesized, deref, bit_cast, length_of_array, reference, element, member, member_expression}
 use Rattle.penne.specs.Read.{to_nodes}
-use Rattle.penne.specs.Write.{num_b, place_b, bytes_b, ident_b, maybe_b, ty_b, carried_b, node_b}
+use Rattle.penne.specs.Write.{num_b, place_b, ident_b, maybe_b, ty_b, carried_b, node_b}
 use Rattle.penne.specs.State as S
 use Rattle.penne.specs.Variables.{analyze_base, analyze_maybe_type, analyze_node}
 use Rattle.answer.specs.Parts.{renumbered, span}
@@ -12,10 +12,6 @@ use Rattle.walk.specs.Walking.{Ground, onward, say}
 use Rattle.walk.proofs.Copying.{Spells, spells_is}
 use Rattle.expression_parts.specs.Expressing.{nodes, nodes_b, list_walk, Integer, is_signed, is_bits}
 use Rattle.expression_parts.proofs.Onward.{out_same}
-
-pub string_is : (a : Ground) (t : List ℕ) (from to end : ℕ) (b : List ℕ) (p : Spot) → renumbered t from to ++ span t to end ≡ bytes_b b → say ((num_b 5 ++ renumbered t from to) ++ (span t to end ++ num_b p.number)) a ≡ onward analyze_node node_b (string b p) a
-unfolding analyze_node node_b place_b S.ret
-string_is a t from to end b p e = out_same (rw (← e) (simp append_assoc))
 
 module _ {t : List ℕ} {from to : ℕ} (a : Ground) where
   -- EXPRESSIONS

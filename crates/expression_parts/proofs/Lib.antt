@@ -3,3 +3,4 @@ pub mod Arms
 pub mod ByKind
 pub mod Arrays
 pub mod Names
+pub mod Texts

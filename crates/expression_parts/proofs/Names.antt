@@ -147,7 +147,7 @@ module _ (a : Ground) (i : Ident Spot) (b : ℕ) (c : Carried Spot) (es : List (
 -- the arguments are dropped, and xs is written in their place
 pub call_instead : {s : Walk} {o l w : List ℕ} {a : Ground} {s₁ : Walk} {o₁ l₁ w₁ : List ℕ} {xs : List ℕ} {v : Wrote} {o₂ : List ℕ} (es : List (Expr Spot)) → Is s o l w a → Is s₁ o₁ l₁ w₁ (list_walk es a) → Put s.wrote xs o₁ v o₂ → Is (with_wrote s₁ v) o₂ l₁ w₁ (say xs (silently nodes es a))
 unfolding nodes
-call_instead {a = a} es i i₁ p = instead i _ (still_node (to_nodes es) a.st).takes.lower i₁ p (record { is = refl })
+call_instead {a = a} es i i₁ p = instead i _ (still_node (to_nodes es) a.st).takes.lower i₁ p
 
 -- call_head
 pub headed_is : {s : Walk} {o l w : List ℕ} {a : Ground} {kind : ℕ} {i : Identifier} {t : List ℕ} {from to : ℕ} {r : Walk} {o' : List ℕ} → Is s o l w a → Headed s kind i t from to o r o' → Is r o' l w (say (num_b kind ++ (made_b i ++ renumbered t from to)) a)

@@ -1,4 +1,4 @@
--- How the walk goes on behind what it wrote, and along a list.
+-- How the walk goes on along a list.
 use mathlib.Core.Path.{◌≡◌, refl, sym, ap, ◌∙◌}
 use mathlib.Core.List.{List, [], ◌∷◌, ◌++◌, append_assoc, append-nil}
 use Prim.Native.Nat.{ℕ, suc}
@@ -10,28 +10,15 @@ use Rattle.penne.specs.Write.{num_b, count, node_b}
 use Rattle.penne.specs.State as S
 use Rattle.penne.specs.Scopes.{Analyzer}
 use Rattle.penne.specs.Variables.{analyze_node}
-use Rattle.fields.specs.Answers.{cursor, counts_of}
 use Rattle.fields.proofs.Back.{many_length}
-use Rattle.answer.specs.declared.wrote.Wrote.{Wrote}
-use Rattle.answer.specs.Out.{Put}
 use Rattle.walk.specs.declared.state.Walk.{Walk}
-use Rattle.walk.specs.Walking.{Moves, Writes, here, Rest, Ground, Is, onward, say, Did, Leads, Input, Walks}
-use Rattle.walk.proofs.Leading.{is_same, Listed, leads_at}
-use Rattle.walk.proofs.Writing.{here_after, moved, wrote}
+use Rattle.walk.specs.Walking.{here, Rest, Ground, Is, onward, say, Did, Leads, Input, Walks}
+use Rattle.walk.proofs.Leading.{is_same, Listed}
 use Rattle.expression_parts.specs.Expressing.{nodes, nodes_b, list_walk}
 
 -- grounds that differ in how their bytes are put together
 pub out_same : {xs ys : List ℕ} {st : Analyzer Spot} {m : Rest} → xs ≡ ys → ◌≡◌ {A = Ground} (record { out = xs; st = st; rest = m }) (record { out = ys; st = st; rest = m })
 out_same {st = st} {m} e = ap (λ (l : List ℕ). record { out = l; st = st; rest = m }) e
-
--- BEHIND WHAT WAS WRITTEN
-
-pub on : {s : Walk} {o l w : List ℕ} {a : Ground} → Is s o l w a → {xs : List ℕ} {v : Wrote} {o' : List ℕ} {r₁ : Walk} {n : ℕ} {r : Walk} → Put s.wrote xs o v o' → Writes s v r₁ → Moves r₁ n r → Is r o' l w (say xs a)
-on i p e f = moved (wrote i p e) f
-
-module _ {A : Type 0} {t : List ℕ} {m : Reader A} {P : A → Cur → Type 0} where
-  pub leads_on : {s : Walk} {v : Wrote} {r₁ : Walk} {n : ℕ} {r : Walk} → Writes s v r₁ → Moves r₁ n r → Leads m t (here r) P → Leads m t (cursor n s.script.names (counts_of s.counts)) P
-  leads_on e f k = leads_at (here_after e f) k
 
 -- a reader by itself
 ret_go : {A : Type 0} (t : List ℕ) (q : Got A) → ◌≡◌ {A = Got A} (elim q [ got y e ↦ ret y t e | refused i p ↦ refused i p ]) q

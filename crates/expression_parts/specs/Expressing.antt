@@ -1,8 +1,9 @@
 -- What the functions over expressions promise.
 use Rattle.std.specs.Prelude.{ℕ, ◌≡◌, List, ◌++◌, Result, Ok, Err}
 use Rattle.penne.specs.Tree.{Spot, Carried, Kind, one, list_of, Node, Expr, signed, bits}
-use Rattle.penne.specs.Read.{to_nodes}
-use Rattle.penne.specs.Write.{num_b, count, node_b}
+use Rattle.penne.specs.Reader.{Reader, ◌>>=◌, ret, bytes}
+use Rattle.penne.specs.Read.{place, to_nodes}
+use Rattle.penne.specs.Write.{num_b, place_b, bytes_b, count, node_b}
 use Rattle.penne.specs.Scopes.{Pass, create_anonymous_resolution_id}
 use Rattle.penne.specs.Variables.{analyze_node}
 use Rattle.fields.specs.declared.field.Identifier.{Identifier}
@@ -34,6 +35,14 @@ pub record Headed (s : Walk) (kind : ℕ) (i : Identifier) (t : List ℕ) (from 
 pub data Integer : ℕ → (List ℕ → Spot → Carried Spot → Expr Spot) → Type 0 where
   is_signed : Integer 3 signed
   is_bits : Integer 4 bits
+
+-- bytes and a place, as a string and an import have them
+unfoldable pub text : Reader (List ℕ × Spot)
+text = bytes >>= λ b. place >>= λ p. ret (b, p)
+
+-- copy_text: a kind, then both as they came in
+abbrev pub say_text : (kind : ℕ) → List ℕ × Spot → Ground → Ground
+say_text kind x a = say (num_b kind ++ (bytes_b x.0 ++ place_b x.1)) a
 
 -- array_id: whatever id an array came with, it gets the next one
 abbrev pub array_number : ℕ → Ground → Ground

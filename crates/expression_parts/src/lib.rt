@@ -9,7 +9,7 @@ ghost use Rattle.penne.specs.Write.{ident_b, maybe_b, node_b};
 ghost use Rattle.penne.specs.Variables.{analyze_base, analyze_node};
 ghost use Rattle.answer.specs.Out.{Put};
 ghost use Rattle.walk.specs.Walking.{onward, Walks};
-ghost use Rattle.expression_parts.specs.Expressing.{Headed, Integer, array_number, refusing, used_b};
+ghost use Rattle.expression_parts.specs.Expressing.{Headed, Integer, array_number, refusing, say_text, text, used_b};
 
 use answer::wrote::Wrote;
 use fields::field::{Identifier, past_identifier, raw, read_identifier};
@@ -57,20 +57,27 @@ pub fn integer(tree: &[u8], answer: &mut [u8], st: &mut Walk, left: u32, kind: u
 pub fn string(tree: &[u8], answer: &mut [u8], st: &mut Walk)
     ensures { (l w : List ℕ) → Walks tree.now read_string (onward analyze_node node_b) st.old answer.old l w st.new answer.new l w }
 {
-    let Ok((n, a)) = number(tree, st.at) else {
+    copy_text(tree, answer, st, 5);
+}
+
+// The kind of a string or an import, then its bytes and its place, as they came in.
+pub fn copy_text(tree: &[u8], answer: &mut [u8], st: &mut Walk, kind: u32)
+    ensures { (l w : List ℕ) → Walks tree.now text (say_text kind) st.old answer.old l w st.new answer.new l w }
+{
+    let Ok((length, a)) = number(tree, st.at) else {
         return;
     };
-    let Ok(b) = raw(tree, a, n) else {
+    let Ok(b) = raw(tree, a, length) else {
         return;
     };
-    let Ok((p, c)) = number(tree, b) else {
+    let Ok((place, c)) = number(tree, b) else {
         return;
     };
     st.wrote = st
         .wrote
-        .then_head(answer, 5, tree, st.at, a)
+        .then_head(answer, kind, tree, st.at, a)
         .then_copy(answer, tree, a, b)
-        .then_number(answer, p);
+        .then_number(answer, place);
     st.at = c;
 }
 

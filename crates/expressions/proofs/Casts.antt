@@ -22,11 +22,11 @@ use Rattle.expression_parts.proofs.Onward.{out_same}
 
 -- the kind and the places are dropped with what was written of the type
 pub type_rewound : {s : Walk} {o l w : List ℕ} {a : Ground} {s₁ : Walk} {o₁ l₁ w₁ : List ℕ} (xs : List ℕ) (x : Ty Spot) → Is s o l w a → Is s₁ o₁ l₁ w₁ (onward analyze_type (ok_b ty_b) x (say xs a)) → Is (with_wrote s₁ s.wrote) o₁ l₁ w₁ (silently analyze_type x a)
-type_rewound {a = a} xs x i i₁ = rewound i _ (still_type x a.st).takes.lower (out_is i₁ (append_assoc a.out xs _)) (record { is = refl })
+type_rewound {a = a} xs x i i₁ = rewound i _ (still_type x a.st).takes.lower (out_is i₁ (append_assoc a.out xs _))
 
 -- a poison is written in their place
 pub type_instead : {s : Walk} {o l w : List ℕ} {a : Ground} {s₁ : Walk} {o₁ l₁ w₁ : List ℕ} {ys : List ℕ} {v : Wrote} {o₂ : List ℕ} (xs : List ℕ) (x : Ty Spot) → Is s o l w a → Is s₁ o₁ l₁ w₁ (onward analyze_type (ok_b ty_b) x (say xs a)) → Put s.wrote ys o₁ v o₂ → Is (with_wrote s₁ v) o₂ l₁ w₁ (say ys (silently analyze_type x a))
-type_instead {a = a} xs x i i₁ p = instead i _ (still_type x a.st).takes.lower (out_is i₁ (append_assoc a.out xs _)) p (record { is = refl })
+type_instead {a = a} xs x i i₁ p = instead i _ (still_type x a.st).takes.lower (out_is i₁ (append_assoc a.out xs _)) p
 
 -- TYPE CASTS
 

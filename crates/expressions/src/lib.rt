@@ -41,7 +41,7 @@ pub fn expression(
     expression_of(tree, answer, list, work, st, left - 1, k);
 }
 
-// What follows an expression's kind.
+// What follows an expression's kind, by the form's number, as in `types`.
 #[cycle(expressions)]
 #[tactic(auto, unfolding(penne::specs::Read::expr_of, penne::specs::Read::expr_kinds))]
 fn expression_of(
@@ -316,7 +316,7 @@ fn function_call(
     }
 }
 
-// A list of expressions.
+// A list of expressions. This loop, that of `items` and that of `steps` are written out: in the cycle a function that takes a closure gets no generated proof.
 #[cycle(expressions)]
 pub fn expressions(
     tree: &[u8],
@@ -447,6 +447,7 @@ fn step(
         return;
     }
     st.at = a;
+    // The form's own numbers, as with the kinds of expressions.
     match k {
         0 => element(tree, answer, list, work, st, left - 1),
         _ => member(tree, answer, st),

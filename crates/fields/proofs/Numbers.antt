@@ -1,9 +1,10 @@
 -- A number's groups, one way out at a time.
-use Rattle.std.proofs.Common.{ℕ, zero, suc, ◌+◌, ◌*◌, ◌-◌, ◌%◌, ◌^◌, ◌≤◌, ◌<◌, ◌≡◌, refl, ap, ◌∙◌, Bool, true, false, List, length, get_or, arith, Ok, Err, Result}
+use Rattle.std.proofs.Common.{ℕ, zero, suc, ◌+◌, ◌*◌, ◌-◌, ◌%◌, ◌^◌, ◌≤◌, ◌<◌, ◌≡◌, refl, ap, ◌∙◌, Bool, true, false, ◌&&◌, ◌||◌, not, List, length, get_or, arith, Ok, Err, Result}
 use native.Mathlib.Nat.{not-suc-le-zero, le-mul_of_pos_right, pow-suc}
-use lib.Dec.{lit≤}
+use lib.Dec.{lit≤, ltb, eqb}
 use borrow.Author.Tests.{lt-ltb, le-ltb}
-use Rattle.penne.specs.Reader.{Cur, got, refused, Reader, num, groups, last_group, moved, such}
+use Rattle.penne.specs.Reader.{Cur, Got, got, refused, Reader, num, below, groups, last_group, moved, such}
+use Rattle.penne.specs.Read.{name}
 use Rattle.fields.specs.Answers.{cursor, Gives, Last}
 use Rattle.fields.specs.declared.refusal.Reason.TheVariants.{CutOff, BadNumber}
 use Rattle.fields.specs.declared.refusal.Refusal.{Refusal}
@@ -94,3 +95,37 @@ module _ {A : Type 0} (m : Reader A) (test : A → Cur → Bool) (k : ℕ) (s : 
   pub such_not : {a : A} {next : Cur} → m s c ≡ got a next → test a next ≡ false → such m test k s c ≡ refused k c.at
   unfolding such
   such_not e t = rw (e, t, such)
+
+-- A NUMBER LEAVES THE TABLE OF NAMES AS IT IS
+
+abbrev kept : Cur → Got ℕ → Type 0
+kept c (got v d) = d.names ≡ c.names
+kept c (refused i p) = Unit {0}
+
+last_kept : (b w v start next : ℕ) (c : Cur) → kept c (last_group b w v start next c)
+unfolding last_group moved
+last_kept b w v start next c = (elim (ltb (v + b * w) (2 ^ 32) && (not (eqb b 0) || eqb w 1)) as (λ t. kept c (elim t as (λ _. Got ℕ) [ true ↦ got (v + b * w) (moved c next) | false ↦ refused 4 start ])) [ true ↦ refl | false ↦ tt ])
+
+groups_kept : (left start w v : ℕ) (s : List ℕ) (at : ℕ) (c : Cur) → kept c (groups left start w v s at c)
+unfolding groups
+groups_kept zero start w v s at c = tt
+groups_kept (suc left) start w v s at c = (elim (ltb at (length s)) as (λ t. kept c (elim t as (λ _. Got ℕ) [ false ↦ refused 3 start | true ↦ elim (ltb (get_or s at 0) 128) as (λ _. Got ℕ) [ false ↦ groups left start (w * 128) (v + (get_or s at 0 % 128) * w) s (at + 1) c | true ↦ last_group (get_or s at 0) w v start (at + 1) c ] ])) [
+  | false ↦ tt
+  | true ↦ (elim (ltb (get_or s at 0) 128) as (λ t. kept c (elim t as (λ _. Got ℕ) [ false ↦ groups left start (w * 128) (v + (get_or s at 0 % 128) * w) s (at + 1) c | true ↦ last_group (get_or s at 0) w v start (at + 1) c ])) [
+    | false ↦ groups_kept left start (w * 128) (v + (get_or s at 0 % 128) * w) s (at + 1) c
+    | true ↦ last_kept (get_or s at 0) w v start (at + 1) c
+  ])
+])
+
+num_kept : (s : List ℕ) (c : Cur) → kept c (num s c)
+unfolding num
+num_kept s c = groups_kept 5 c.at 1 0 s c.at c
+
+-- so a name is a number below how many names there are
+pub name_is : (s : List ℕ) (c : Cur) → name s c ≡ below c.names s c
+unfolding name below such
+name_is s c = go (num s c) (num_kept s c)
+  where
+    go : (q : Got ℕ) → kept c q → elim q as (λ _. Got ℕ) [ got v d ↦ elim (ltb v d.names) as (λ _. Got ℕ) [ true ↦ got v d | false ↦ refused 5 c.at ] | refused i p ↦ refused i p ] ≡ elim q as (λ _. Got ℕ) [ got v d ↦ elim (ltb v c.names) as (λ _. Got ℕ) [ true ↦ got v d | false ↦ refused 5 c.at ] | refused i p ↦ refused i p ]
+    go (got v d) h = rw h refl
+    go (refused i p) h = refl

@@ -1,12 +1,13 @@
 -- Parts that are only passed: each law takes a part of a definition for the next, as far as the end is concerned.
 use Rattle.std.proofs.Common.{ℕ, zero, suc, ◌≡◌, ◌≢◌, refl, sym, ap, ◌∙◌, List, [], ◌∷◌, ◌++◌, map, length, get_or, if◌then◌else◌, nat_eq, true, false, arith}
 use Rattle.std.proofs.Math.Option.{some}
+use Rattle.std.proofs.Math.ListN.{get_or-map}
 use lib.Dec.{eqb}
 use borrow.Author.Tests.{ne_eqb, eqb-true, eqb-false}
-use Rattle.penne.specs.Reader.{Cur, Got, got, refused, Reader, ◌>>=◌, ret, many, num, below}
-use Rattle.penne.specs.Tree.{Spot, Poison, earlier, poison, ok, err}
-use Rattle.penne.specs.Read.{name, place, either, maybe, option, read_poison, poison_of, poison_fields}
-use Rattle.fields.specs.Answers.{forget, poison_names, poison_places}
+use Rattle.penne.specs.Reader.{Cur, Got, got, refused, Reader, ◌>>=◌, ret, many, num, below, bytes}
+use Rattle.penne.specs.Tree.{Spot, Ident, Poison, earlier, poison, ok, err}
+use Rattle.penne.specs.Read.{name, ident, place, either, maybe, option, read_poison, poison_of, poison_fields}
+use Rattle.fields.specs.Answers.{forget, identifier_and_number, bytes_and_place, poison_names, poison_places}
 use Rattle.fields.proofs.Chain.{after, then_is}
 use Rattle.fields.proofs.Back.{forget_got, forget_refused}
 
@@ -18,6 +19,37 @@ tail_go g s (refused i p) = refl
 -- what is made of a part's value does not move its end
 pub tail_is : {A B : Type 0} (g : A → B) (m : Reader A) (s : List ℕ) (c : Cur) → forget ((m >>= λ a. ret (g a)) s c) ≡ forget (m s c)
 tail_is g m s c = rw then_is (tail_go g s (m s c))
+
+-- nor what is made of the values of two
+pub two_is : {A B C : Type 0} (g : A → B → C) (m : Reader A) (n : Reader B) (s : List ℕ) (c : Cur) → forget ((m >>= λ a. n >>= λ b. ret (g a b)) s c) ≡ forget ((m >>= λ a. n) s c)
+unfolding forget
+two_is {A} g m n s c = ap forget (then_is _ _ s c) ∙ go (m s c) ∙ ap forget (sym (then_is _ _ s c))
+  where
+    go : (q : Got A) → forget (after (λ a. n >>= λ b. ret (g a b)) s q) ≡ forget (after (λ a. n) s q)
+    go (got a d) = tail_is (g a) n s d
+    go (refused i p) = refl
+
+-- a place ends where its number does
+pub place_is : (s : List ℕ) (c : Cur) → forget (place s c) ≡ forget (num s c)
+unfolding place
+place_is s c = tail_is (λ n. record { number = n; from = c.at }) num s c
+
+-- what is made of an identifier and a number or a place, and of bytes and a place
+pub identifier_and_number_is : {A : Type 0} (g : Ident Spot → ℕ → A) (s : List ℕ) (c : Cur) → forget ((ident >>= λ i. num >>= λ n. ret (g i n)) s c) ≡ forget (identifier_and_number s c)
+unfolding identifier_and_number
+identifier_and_number_is g s c = two_is g ident num s c ∙ sym (two_is (λ i n. (i, n)) ident num s c)
+
+pub identifier_and_place_is : {A : Type 0} (g : Ident Spot → Spot → A) (s : List ℕ) (c : Cur) → forget ((ident >>= λ i. place >>= λ p. ret (g i p)) s c) ≡ forget (identifier_and_number s c)
+unfolding identifier_and_number forget
+identifier_and_place_is g s c = two_is g ident place s c ∙ ap forget (then_is _ _ s c) ∙ go (ident s c) ∙ ap forget (sym (then_is _ _ s c)) ∙ sym (two_is (λ i n. (i, n)) ident num s c)
+  where
+    go : (q : Got (Ident Spot)) → forget (after (λ _. place) s q) ≡ forget (after (λ _. num) s q)
+    go (got i d) = place_is s d
+    go (refused i p) = refl
+
+pub bytes_and_place_is : {A : Type 0} (g : List ℕ → Spot → A) (s : List ℕ) (c : Cur) → forget ((bytes >>= λ b. place >>= λ p. ret (g b p)) s c) ≡ forget (bytes_and_place s c)
+unfolding bytes_and_place
+bytes_and_place_is g s c = two_is g bytes place s c ∙ sym (two_is (λ b p. (b, p)) bytes place s c)
 
 -- a place that stands by itself
 pub place_got : (s : List ℕ) (c : Cur) {n : ℕ} {d : Cur} → num s c ≡ got n d → place s c ≡ got (record { number = n; from = c.at }) d
@@ -73,6 +105,15 @@ row f e z (x ∷ xs) (suc k) h = row f e z xs k (λ j. h (ap suc j))
 rows : (k : ℕ) → k ≢ 17 → k ≢ length poison_fields
 unfolding poison_fields
 rows k z = z
+
+-- the table of the kinds' fields, by its columns
+pub names_column : (k : ℕ) → get_or poison_names k 0 ≡ (get_or (poison_fields ++ ((0, 1) ∷ [])) k (0, 0)).0
+unfolding poison_names poison_fields
+names_column k = get_or-map (λ (r : ℕ × ℕ). r.0) (poison_fields ++ ((0, 1) ∷ [])) k (0, 0)
+
+pub places_column : (k : ℕ) → get_or poison_places k 0 ≡ (get_or (poison_fields ++ ((0, 1) ∷ [])) k (0, 0)).1
+unfolding poison_places poison_fields
+places_column k = get_or-map (λ (r : ℕ × ℕ). r.1) (poison_fields ++ ((0, 1) ∷ [])) k (0, 0)
 
 -- names, then places
 parts : (n p : ℕ) → Reader (List Spot)

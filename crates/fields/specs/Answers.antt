@@ -1,6 +1,6 @@
 -- What the readers' answers say, in the words of the definitions. The code keeps no tree, so that of a part's value only the end is left.
 use Rattle.std.specs.Prelude.{ℕ, ◌≡◌, List, [], ◌∷◌, ◌++◌, map, true, false, Option, Some, None, Result, Ok, Err}
-use Rattle.penne.specs.Reader.{Counts, Cur, Got, got, refused, Reader, ◌>>=◌, ret, num, plus, fits, last_group}
+use Rattle.penne.specs.Reader.{Counts, Cur, Got, got, refused, Reader, ◌>>=◌, ret, num, bytes, plus, fits, last_group}
 use Rattle.penne.specs.Tree.{Spot, Ident}
 use Rattle.penne.specs.Read.{ident, place, poison_fields}
 use Rattle.fields.specs.declared.field.Identifier.{Identifier}
@@ -87,6 +87,13 @@ poison_names = map (λ r. r.0) poison_fields ++ (0 ∷ [])
 
 unfoldable pub poison_places : List ℕ
 poison_places = map (λ r. r.1) poison_fields ++ (1 ∷ [])
+
+-- an identifier and a number, bytes and a place
+unfoldable pub identifier_and_number : Reader (Ident Spot × ℕ)
+identifier_and_number = ident >>= λ i. num >>= λ n. ret (i, n)
+
+unfoldable pub bytes_and_place : Reader (List ℕ × Spot)
+bytes_and_place = bytes >>= λ b. place >>= λ p. ret (b, p)
 
 -- what the form writes "2p", and "op, 2p"
 unfoldable pub two_places : Reader (Spot × Spot)

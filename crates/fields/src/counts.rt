@@ -4,7 +4,7 @@ ghost use Rattle.penne.specs.Reader.{an_entry};
 ghost use Rattle.penne.specs.Read.{stmt_counts, stmt_kinds, k_bad_stmt, decl_counts, decl_kinds, k_bad_decl};
 ghost use Rattle.fields.specs.Answers.{counts_of, Counting};
 
-#[derive(Clone, Copy)]
+#[derive(Clone, Copy, PartialEq, Eq)]
 pub struct Counts {
     pub containers: u32,
     pub functions: u32,
@@ -69,6 +69,7 @@ pub fn statement_counts(kind: u32) -> Counts
     }
 }
 
+// What a declaration counts as: constants and structures are containers, functions and their heads are functions.
 #[tactic(auto, using(crate::proofs::Counting::decl_counts_rest), unfolding(penne::specs::Read::decl_counts, penne::specs::Read::decl_kinds, penne::specs::Reader::nothing, penne::specs::Reader::a_container, penne::specs::Reader::a_function))]
 pub fn declaration_counts(kind: u32) -> Counts
     ensures { counts_of result ≡ decl_counts (get_or decl_kinds kind k_bad_decl) }

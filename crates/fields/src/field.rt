@@ -1,9 +1,9 @@
 // Fields that are more than a number: names, identifiers, bytes.
 ghost use Rattle.penne.specs.Reader.{raw, bytes};
-ghost use Rattle.penne.specs.Read.{name, ident};
-ghost use Rattle.fields.specs.Answers.{Reads, Ends, Skips, Identifies, two_places, operator};
+ghost use Rattle.penne.specs.Read.{name, ident, place};
+ghost use Rattle.fields.specs.Answers.{Reads, Ends, Skips, Identifies, identifier_and_number, bytes_and_place, two_places, operator};
 
-use super::number::{below, number};
+use super::number::{below, number, past_number};
 use super::refusal::{Reason, Refusal};
 
 #[derive(Clone, Copy)]
@@ -15,16 +15,11 @@ pub struct Identifier {
 }
 
 // A name number, which is in the table of so many names.
-#[tactic(auto, unfolding(penne::specs::Read::name, penne::specs::Reader::such))]
+#[tactic(auto, using(crate::proofs::Numbers::name_is))]
 pub fn name(tree: &[u8], names: u32, at: usize) -> Result<(u32, usize), Refusal>
     ensures { Reads name tree.now names at result }
 {
-    let (value, next) = number(tree, at)?;
-    if value < names {
-        Ok((value, next))
-    } else {
-        Err(Reason::OutOfRange.at(at))
-    }
+    below(tree, names, at)
 }
 
 #[tactic(auto, using(crate::proofs::Chain::then_is), unfolding(penne::specs::Read::ident, penne::specs::Reader::ret))]
@@ -53,6 +48,14 @@ pub fn past_identifier(tree: &[u8], names: u32, at: usize) -> Result<usize, Refu
     Ok(next)
 }
 
+// An identifier and the number behind it, which may be a place.
+#[tactic(auto, using(crate::proofs::Parts::laws), unfolding(crate::specs::Answers::forget, crate::specs::Answers::identifier_and_number, penne::specs::Reader::ret))]
+pub fn identifier_and_number(tree: &[u8], names: u32, at: usize) -> Result<usize, Refusal>
+    ensures { Ends identifier_and_number tree.now names at result }
+{
+    past_number(tree, past_identifier(tree, names, at)?)
+}
+
 // So many bytes, which are one field.
 #[tactic(auto, unfolding(crate::specs::Answers::forget, penne::specs::Reader::raw, penne::specs::Reader::moved))]
 pub fn raw(tree: &[u8], at: usize, count: u32) -> Result<usize, Refusal>
@@ -73,20 +76,35 @@ pub fn bytes(tree: &[u8], at: usize) -> Result<usize, Refusal>
     raw(tree, at, count)
 }
 
-#[tactic(auto, using(crate::proofs::Chain::then_is), unfolding(crate::specs::Answers::forget, crate::specs::Answers::two_places, penne::specs::Read::place, penne::specs::Reader::ret))]
+// A place passed by: it stands as a number.
+#[tactic(auto, using(crate::proofs::Parts::place_is))]
+pub fn place(tree: &[u8], at: usize) -> Result<usize, Refusal>
+    ensures { Skips place tree.now at result }
+{
+    past_number(tree, at)
+}
+
+// Bytes and the place behind them.
+#[tactic(auto, using(crate::proofs::Parts::laws), unfolding(crate::specs::Answers::forget, crate::specs::Answers::bytes_and_place, penne::specs::Reader::ret))]
+pub fn bytes_and_place(tree: &[u8], at: usize) -> Result<usize, Refusal>
+    ensures { Skips bytes_and_place tree.now at result }
+{
+    place(tree, bytes(tree, at)?)
+}
+
+#[tactic(auto, using(crate::proofs::Parts::laws), unfolding(crate::specs::Answers::forget, crate::specs::Answers::two_places, penne::specs::Reader::ret))]
 pub fn two_places(tree: &[u8], at: usize) -> Result<usize, Refusal>
     ensures { Skips two_places tree.now at result }
 {
-    let (_, at) = number(tree, at)?;
-    let (_, at) = number(tree, at)?;
-    Ok(at)
+    let at = place(tree, at)?;
+    place(tree, at)
 }
 
 // An operator and two places.
-#[tactic(auto, using(crate::proofs::Chain::then_is), unfolding(crate::specs::Answers::forget, crate::specs::Answers::operator, crate::specs::Answers::two_places, penne::specs::Reader::ret))]
+#[tactic(auto, using(crate::proofs::Parts::laws), unfolding(crate::specs::Answers::forget, crate::specs::Answers::operator, penne::specs::Reader::ret))]
 pub fn operator(tree: &[u8], at: usize) -> Result<usize, Refusal>
     ensures { Skips operator tree.now at result }
 {
-    let (_, at) = number(tree, at)?;
+    let at = past_number(tree, at)?;
     two_places(tree, at)
 }

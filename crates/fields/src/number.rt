@@ -1,7 +1,7 @@
 // Numbers: groups of seven bits, low group first.
 ghost use Rattle.std.specs.Prelude.{◌+◌, ◌*◌, ◌^◌, ◌<◌, ◌≤◌};
 ghost use Rattle.penne.specs.Reader.{num, below, last_group};
-ghost use Rattle.fields.specs.Answers.{Last, Gives};
+ghost use Rattle.fields.specs.Answers.{Last, Gives, Skips};
 
 use super::refusal::{Reason, Refusal};
 
@@ -15,6 +15,15 @@ pub fn number(tree: &[u8], at: usize) -> Result<(u32, usize), Refusal>
         Some(&first) if first < 128 => Ok((u32::from(first), at + 1)),
         Some(_) => groups(tree, at),
     }
+}
+
+// A number passed by.
+#[tactic(auto, unfolding(crate::specs::Answers::forget))]
+pub fn past_number(tree: &[u8], at: usize) -> Result<usize, Refusal>
+    ensures { Skips num tree.now at result }
+{
+    let (_, next) = number(tree, at)?;
+    Ok(next)
 }
 
 // A number of any width.

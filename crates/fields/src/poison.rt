@@ -1,30 +1,54 @@
 // Poisons: a kind, then names, then places.
-ghost use Rattle.std.specs.Prelude.{◌≡◌, get_or};
+ghost use Rattle.std.specs.Prelude.{◌≡◌, ◌++◌, ◌∷◌, [], get_or};
 ghost use Rattle.penne.specs.Reader.{many};
-ghost use Rattle.penne.specs.Read.{name, place, ident, maybe, read_poison};
+ghost use Rattle.penne.specs.Read.{name, place, ident, maybe, read_poison, poison_fields};
 ghost use Rattle.fields.specs.Answers.{Ends, Skips, poison_names, poison_places};
 
-use super::field::{name, past_identifier};
-use super::number::{below, number};
+use super::field::{name, past_identifier, place};
+use super::number::below;
 use super::refusal::Refusal;
 
-// The fields of the kinds 0 to 17: a row each, names and places apart. Kind 17's one number counts as a place.
-const NAMES: [u32; 18] = [0, 1, 1, 1, 1, 1, 1, 1, 1, 1, 1, 1, 1, 2, 1, 1, 2, 0];
+// How many names and how many places the kinds 0 to 17 have, a row each. Kind 17's one number counts as a place.
+const FIELDS: [(u32, u32); 18] = [
+    (0, 0),
+    (1, 2),
+    (1, 1),
+    (1, 2),
+    (1, 2),
+    (1, 2),
+    (1, 2),
+    (1, 2),
+    (1, 2),
+    (1, 1),
+    (1, 1),
+    (1, 1),
+    (1, 2),
+    (2, 4),
+    (1, 1),
+    (1, 2),
+    (2, 3),
+    (0, 1),
+];
 
-const PLACES: [u32; 18] = [0, 2, 1, 2, 2, 2, 2, 2, 2, 1, 1, 1, 2, 4, 1, 2, 3, 1];
+#[tactic(auto, unfolding(penne::specs::Read::poison_fields))]
+fn fields_of(kind: u32) -> (u32, u32)
+    ensures { result ≡ get_or (poison_fields ++ ((0, 1) ∷ [])) kind (0, 0) }
+{
+    FIELDS.get(kind as usize).copied().unwrap_or((0, 0))
+}
 
-#[tactic(auto, unfolding(crate::specs::Answers::poison_names, penne::specs::Read::poison_fields))]
+#[tactic(auto, using(crate::proofs::Parts::names_column))]
 pub fn poison_names(kind: u32) -> u32
     ensures { result ≡ get_or poison_names kind 0 }
 {
-    NAMES.get(kind as usize).copied().unwrap_or(0)
+    fields_of(kind).0
 }
 
-#[tactic(auto, unfolding(crate::specs::Answers::poison_places, penne::specs::Read::poison_fields))]
+#[tactic(auto, using(crate::proofs::Parts::places_column))]
 pub fn poison_places(kind: u32) -> u32
     ensures { result ≡ get_or poison_places kind 0 }
 {
-    PLACES.get(kind as usize).copied().unwrap_or(0)
+    fields_of(kind).1
 }
 
 #[tactic(auto, using(crate::proofs::Lists::rests, crate::proofs::Chain::number_got, crate::proofs::Chain::number_refused))]
@@ -38,13 +62,13 @@ fn name_numbers(tree: &[u8], names: u32, at: usize, count: u32) -> Result<usize,
     Ok(at)
 }
 
-#[tactic(auto, using(crate::proofs::Chain::then_is, crate::proofs::Lists::many_off, crate::proofs::Lists::many_end), unfolding(penne::specs::Read::place, penne::specs::Reader::ret))]
+#[tactic(auto, using(crate::proofs::Lists::many_out, crate::proofs::Lists::many_end))]
 pub fn places(tree: &[u8], at: usize, count: u32) -> Result<usize, Refusal>
     ensures { Skips (many place count) tree.now at result }
 {
     let mut at = at;
     for _ in 0..count {
-        (_, at) = number(tree, at)?;
+        at = place(tree, at)?;
     }
     Ok(at)
 }

@@ -6,7 +6,7 @@ ghost use Rattle.std.specs.Io.{ReadsAtMost};
 use std::io;
 use std::io::Read;
 
-// Reads until `buf` is full or the input ends, and returns how many bytes it put at the start of `buf`.
+// Reads until `buf` is full or the input ends, and returns how many bytes it put at the start of `buf`. A `while`: a step is as long as what the system gives.
 pub fn read_full<R: Read>(input: &mut R, buf: &mut [u8]) -> io::Result<usize>
     ensures { ReadsAtMost result buf.new }
 {

@@ -139,6 +139,7 @@ fn lay(
     }
     let here = count(counts, statement_counts(kind)).ok_or(Reason::TooMany.at(at))?;
     let k = counts.statements;
+    // The form's own numbers: a goto, a label, an If, a block, and all that holds no statement.
     match kind {
         4 => lay_goto(tree, work, names, inside, here, k, previous),
         5 => lay_label(tree, work, names, inside, here, k, previous),

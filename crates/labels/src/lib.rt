@@ -1,5 +1,5 @@
 // Labels in scope, the outermost scope first, each in the order declared; and the visit, last statement first.
-// A label's row is its id less 1. What is decided for a statement, by its number: for a goto the id of its label, 0 where there is none; for a label its id, or 1,024 + the id of the earlier label of its name.
+// A label's row is its id less 1. What is decided for a statement, by its number: for a goto the id of its label, 0 where there is none; for a label its id, or 1,024 + the id of the earlier label of its name. All this is kept in words of the work memory, where 0 stands for none.
 #![tactic(auto)]
 
 ghost use Rattle.std.specs.Prelude.{ℕ, ◌≤◌, length};
@@ -18,7 +18,7 @@ pub struct Labels {
     pub next: u32,
 }
 
-// The list whose last statement has the number `last` less 1.
+// The list whose last statement has the number `last` less 1. A `while`: it goes back by links, so that there is no count.
 #[cycle(labels)]
 pub fn visit_list(work: &mut [u32], mut last: u32, mut labels: Labels, left: u32) -> Labels
     ensures { VisitsList left last labels work.old result work.new }
@@ -131,6 +131,7 @@ fn find_label(work: &[u32], count: usize, name: u32) -> Option<u32>
     if work.len() < LABEL_STACK_END || 1024 < count {
         return None;
     }
+    // No `find`: the promise goes along the labels one by one, and so does its proof.
     for i in 0..count {
         let id = work[LABEL_STACK + i];
         if named(work, id, name) {

@@ -1,14 +1,15 @@
 -- Expressions, references and steps: their heads, and what follows them by its kind.
-use Rattle.std.proofs.Common.{ℕ, zero, suc, ◌≤◌, ◌≡◌, ◌≢◌, refl, ap, ◌∙◌, false, true, List, get_or, arith}
+use Rattle.std.proofs.Common.{ℕ, zero, suc, ◌≤◌, ◌≡◌, ◌≢◌, refl, sym, ap, ◌∙◌, false, true, List, get_or, arith}
 use lib.Dec.{eqb}
 use borrow.Author.Tests.{eqb-true, eqb-false}
 use Rattle.std.proofs.lemmas.List.{get_or_past}
-use Rattle.penne.specs.Reader.{Cur, Reader, ◌>>=◌, ret, below, listed}
-use Rattle.penne.specs.Tree.{Spot, Ty, expr, ref, step, binary, unary, signed, bits, bit_cast, type_cast, reference, bad_expr}
+use Rattle.penne.specs.Reader.{Cur, Got, got, refused, Reader, ◌>>=◌, ret, below, listed}
+use Rattle.penne.specs.Tree.{Spot, Ty, Expr, expr, ref, step, binary, unary, signed, bits, string, bit_cast, type_cast, reference, member, bad_expr}
 use Rattle.penne.specs.Read.{Readers, ident, maybe, option, read, head, rest_of, expr_of, step_of, to_nodes, read_ty, ExprKind, expr_kinds, k_binary, k_unary, k_boolean, k_signed, k_bits, k_string, k_array_literal, k_structural, k_parenthesized, k_deref, k_bit_cast, k_type_cast, k_length_of_array, k_size_of, k_function_call, k_bad_expr, read_binary, read_unary, read_boolean, read_integer, read_string, read_array_literal, read_structural, read_parenthesized, read_deref, read_bit_cast, read_type_cast, read_length_of_array, read_size_of, read_function_call, read_poison}
-use Rattle.fields.specs.Answers.{forget, two_places, operator}
-use Rattle.fields.proofs.Chain.{Node as Nodes, node_end, node_is, places_same, operator_same}
-use Rattle.fields.proofs.Parts.{tail_is}
+use Rattle.fields.specs.Answers.{forget, identifier_and_number, bytes_and_place, two_places, operator}
+use Rattle.nodes.specs.Parts.{operation}
+use Rattle.fields.proofs.Chain.{Node as Nodes, after, then_is, node_end, node_is, places_same, operator_same}
+use Rattle.fields.proofs.Parts.{tail_is, two_is, identifier_and_number_is, bytes_and_place_is}
 
 -- HEADS
 
@@ -34,6 +35,18 @@ module _ (left : ℕ) (s : List ℕ) (c : Cur) where
   pub step_is : forget (read left step s c) ≡ node_end (λ l n. step_of (read l) n) left s c.at (below 2 s c)
   step_is = node_is step_node left s c
 
+-- "op, 2p, left, right"
+
+binary_is : (R : Readers) (s : List ℕ) (c : Cur) → forget (read_binary R s c) ≡ forget (operation R s c)
+unfolding read_binary operation forget
+binary_is R s c =
+    ap (λ (m : Reader (Expr Spot)). forget (m s c)) (operator_same λ op p. R expr >>= λ x. R expr >>= λ y. ret (binary op p.0 p.1 x y)) ∙
+    ap forget (then_is _ _ s c) ∙ go (operator s c) ∙ ap forget (sym (then_is _ _ s c))
+  where
+    go : (q : Got (ℕ × (Spot × Spot))) → forget (after (λ o. R expr >>= λ x. R expr >>= λ y. ret (binary o.0 o.1.0 o.1.1 x y)) s q) ≡ forget {A = (ℕ × (Spot × Spot)) × (Expr Spot × Expr Spot)} (after (λ o. R expr >>= λ x. R expr >>= λ y. ret (o, (x, y))) s q)
+    go (got o d) = two_is (binary o.0 o.1.0 o.1.1) (R expr) (R expr) s d ∙ sym (two_is {C = (ℕ × (Spot × Spot)) × (Expr Spot × Expr Spot)} (λ x y. (o, (x, y))) (R expr) (R expr) s d)
+    go (refused i p) = refl
+
 -- AN EXPRESSION BY ITS KIND
 
 pub bad_kind : (k : ℕ) → 15 ≤ k → get_or expr_kinds k k_bad_expr ≡ k_bad_expr
@@ -51,9 +64,9 @@ module _ (R : Readers) (T : Reader (Ty Spot)) (k : ℕ) (s : List ℕ) (c : Cur)
   as_kind : (x : ExprKind) → get_or expr_kinds k k_bad_expr ≡ x → forget (expr_of R T (get_or expr_kinds k k_bad_expr) s c) ≡ forget (expr_of R T x s c)
   as_kind x e = ap (λ (y : ExprKind). forget (expr_of R T y s c)) e
 
-  pub binary_kind : k ≡ 0 → forget (expr_of R T (get_or expr_kinds k k_bad_expr) s c) ≡ forget (read_binary R s c)
+  pub binary_kind : k ≡ 0 → forget (expr_of R T (get_or expr_kinds k k_bad_expr) s c) ≡ forget (operation R s c)
   unfolding expr_of expr_kinds
-  binary_kind e = as_kind k_binary (rw e)
+  binary_kind e = as_kind k_binary (rw e) ∙ binary_is R s c
 
   pub unary_kind : k ≡ 1 → forget (expr_of R T (get_or expr_kinds k k_bad_expr) s c) ≡ forget (read_unary R s c)
   unfolding expr_of expr_kinds
@@ -71,9 +84,9 @@ module _ (R : Readers) (T : Reader (Ty Spot)) (k : ℕ) (s : List ℕ) (c : Cur)
   unfolding expr_of expr_kinds
   bits_kind e = as_kind k_bits (rw e)
 
-  pub string_kind : k ≡ 5 → forget (expr_of R T (get_or expr_kinds k k_bad_expr) s c) ≡ forget (read_string s c)
-  unfolding expr_of expr_kinds
-  string_kind e = as_kind k_string (rw e)
+  pub string_kind : k ≡ 5 → forget (expr_of R T (get_or expr_kinds k k_bad_expr) s c) ≡ forget (bytes_and_place s c)
+  unfolding expr_of expr_kinds read_string
+  string_kind e = as_kind k_string (rw e) ∙ bytes_and_place_is string s c
 
   pub array_literal_kind : k ≡ 6 → forget (expr_of R T (get_or expr_kinds k k_bad_expr) s c) ≡ forget (read_array_literal R T s c)
   unfolding expr_of expr_kinds
@@ -123,10 +136,6 @@ module _ (R : Readers) (s : List ℕ) (c : Cur) where
   as_reader : {A : Type 0} {m m' : Reader A} → m ≡ m' → forget (m s c) ≡ forget (m' s c)
   as_reader e = ap (λ (m : Reader _). forget (m s c)) e
 
-  pub binary_is : forget (read_binary R s c) ≡ forget ((operator >>= λ o. R expr >>= λ x. R expr >>= λ y. ret (binary o.0 o.1.0 o.1.1 x y)) s c)
-  unfolding read_binary
-  binary_is = as_reader (operator_same λ op p. R expr >>= λ x. R expr >>= λ y. ret (binary op p.0 p.1 x y))
-
   pub unary_is : forget (read_unary R s c) ≡ forget ((operator >>= λ o. R expr >>= λ x. ret (unary o.0 o.1.0 o.1.1 x)) s c)
   unfolding read_unary
   unary_is = as_reader (operator_same λ op p. R expr >>= λ x. ret (unary op p.0 p.1 x))
@@ -150,7 +159,7 @@ module _ (R : Readers) (k : ℕ) (s : List ℕ) (c : Cur) where
   pub element_is : k ≡ 0 → forget (step_of R k s c) ≡ forget (step_of R 0 s c)
   element_is e = ap (λ (j : ℕ). forget (step_of R j s c)) e
 
-pub member_is : (R : Readers) (k : ℕ) (s : List ℕ) (c : Cur) → k ≢ 0 → forget (step_of R k s c) ≡ forget (step_of (read 0) 1 s c)
+pub member_is : (R : Readers) (k : ℕ) (s : List ℕ) (c : Cur) → k ≢ 0 → forget (step_of R k s c) ≡ forget (identifier_and_number s c)
 unfolding step_of
 member_is R zero s c z = absurd (z refl)
-member_is R (suc k) s c z = refl
+member_is R (suc k) s c z = identifier_and_number_is member s c

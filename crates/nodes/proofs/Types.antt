@@ -6,11 +6,11 @@ use lib.Seq.{get_or-take, get_or-drop}
 use borrow.Author.Tests.{ne_eqb}
 use Rattle.std.proofs.lemmas.List.{get_or_past}
 use Rattle.penne.specs.Reader.{Cur, Got, got, refused, Reader, ret, below, such, too_deep}
-use Rattle.penne.specs.Tree.{Spot, Ty, arraylike, struct, unresolved, pointer, view}
+use Rattle.penne.specs.Tree.{Spot, Ty, arraylike, struct, word, unresolved, pointer, view}
 use Rattle.penne.specs.Read.{ident, read_ty, ty_of, TyKind, ty_kinds, k_plain, k_arraylike, k_array, k_named_length, k_word, k_nameless, k_struct, k_unresolved, k_pointer, k_view}
-use Rattle.fields.specs.Answers.{forget}
+use Rattle.fields.specs.Answers.{forget, identifier_and_number}
 use Rattle.fields.proofs.Chain.{after, then_is}
-use Rattle.fields.proofs.Parts.{tail_is}
+use Rattle.fields.proofs.Parts.{tail_is, identifier_and_number_is}
 
 -- THE KIND
 
@@ -55,9 +55,9 @@ module _ (t u : Reader (Ty Spot)) (k : ℕ) (s : List ℕ) (c : Cur) where
   unfolding ty_of ty_kinds
   named_is e = as_kind k_named_length (rw e)
 
-  pub word_is : k ≡ 21 → forget (ty_of t u k (get_or ty_kinds k k_plain) s c) ≡ forget (ty_of (read_ty 0 false) (read_ty 0 false) 21 k_word s c)
-  unfolding ty_of ty_kinds
-  word_is e = as_kind k_word (rw e)
+  pub word_is : k ≡ 21 → forget (ty_of t u k (get_or ty_kinds k k_plain) s c) ≡ forget (identifier_and_number s c)
+  unfolding ty_of ty_kinds identifier_and_number
+  word_is e = as_kind k_word (rw e) ∙ identifier_and_number_is word s c
 
   pub nameless_is : k ≡ 23 → forget (ty_of t u k (get_or ty_kinds k k_plain) s c) ≡ got tt c
   unfolding ty_of ty_kinds ret forget

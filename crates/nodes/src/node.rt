@@ -2,12 +2,15 @@
 ghost use Rattle.std.specs.Prelude.{false, get_or};
 ghost use Rattle.penne.specs.Tree.{expr, ref, step, signed, bits};
 ghost use Rattle.penne.specs.Reader.{listed};
-ghost use Rattle.penne.specs.Read.{option, read, rest_of, expr_of, expr_kinds, k_bad_expr, read_ty, item_of, step_of, read_binary, read_unary, read_boolean, read_integer, read_string, read_array_literal, read_structural, read_parenthesized, read_deref, read_bit_cast, read_type_cast, read_length_of_array, read_size_of, read_function_call};
+ghost use Rattle.penne.specs.Read.{option, read, rest_of, expr_of, expr_kinds, k_bad_expr, read_ty, item_of, step_of, read_unary, read_boolean, read_integer, read_array_literal, read_structural, read_parenthesized, read_deref, read_bit_cast, read_type_cast, read_length_of_array, read_size_of, read_function_call};
 ghost use Rattle.fields.specs.Answers.{Ends, Skips};
+ghost use Rattle.nodes.specs.Parts.{operation};
 
 use super::value_type::{carried, maybe_type, value_type};
-use fields::field::{bytes, operator, past_identifier, raw, two_places};
-use fields::number::{below, number};
+use fields::field::{
+    bytes_and_place, identifier_and_number, operator, past_identifier, place, raw, two_places,
+};
+use fields::number::{below, number, past_number};
 use fields::poison::{maybe_identifier, poison};
 use fields::refusal::{Reason, Refusal};
 
@@ -23,18 +26,18 @@ pub fn expression(tree: &[u8], names: u32, at: usize, left: u32) -> Result<usize
     expression_of(tree, names, next, left - 1, kind)
 }
 
-// What follows an expression's kind.
+// What follows an expression's kind. The kinds are the form's own numbers, each beside its reader, so that all are seen at a glance.
 #[cycle(node)]
 #[tactic(auto, using(crate::proofs::Nodes::kinds))]
 fn expression_of(tree: &[u8], names: u32, at: usize, left: u32, kind: u32) -> Result<usize, Refusal>
     ensures { Ends (expr_of (read left) (read_ty left false) (get_or expr_kinds kind k_bad_expr)) tree.now names at result }
 {
     match kind {
-        0 => binary(tree, names, at, left),
+        0 => operation(tree, names, at, left),
         1 => unary(tree, names, at, left),
         2 => boolean(tree, at),
         3 | 4 => integer(tree, names, at, left),
-        5 => string(tree, at),
+        5 => bytes_and_place(tree, at), // a string
         6 => array_literal(tree, names, at, left),
         7 => structural(tree, names, at, left),
         8 => parenthesized(tree, names, at, left),
@@ -48,14 +51,15 @@ fn expression_of(tree: &[u8], names: u32, at: usize, left: u32, kind: u32) -> Re
     }
 }
 
+// What follows the kind of a Binary; the condition of an If is read alike.
 #[cycle(node)]
-#[tactic(auto, using(fields::proofs::Parts::laws, crate::proofs::Nodes::binary_is), unfolding(fields::specs::Answers::forget, penne::specs::Reader::ret))]
-fn binary(tree: &[u8], names: u32, at: usize, left: u32) -> Result<usize, Refusal>
-    ensures { Ends (read_binary (read left)) tree.now names at result }
+#[tactic(auto, using(fields::proofs::Parts::laws), unfolding(fields::specs::Answers::forget, crate::specs::Parts::operation, penne::specs::Reader::ret))]
+pub fn operation(tree: &[u8], names: u32, at: usize, left: u32) -> Result<usize, Refusal>
+    ensures { Ends (operation (read left)) tree.now names at result }
 {
-    let at = operator(tree, at)?;
-    let at = expression(tree, names, at, left)?;
-    expression(tree, names, at, left)
+    let first = operator(tree, at)?;
+    let second = expression(tree, names, first, left)?;
+    expression(tree, names, second, left)
 }
 
 #[cycle(node)]
@@ -67,62 +71,51 @@ fn unary(tree: &[u8], names: u32, at: usize, left: u32) -> Result<usize, Refusal
     expression(tree, names, at, left)
 }
 
-#[tactic(auto, using(fields::proofs::Parts::laws), unfolding(fields::specs::Answers::forget, penne::specs::Read::read_boolean, penne::specs::Read::place, penne::specs::Reader::ret))]
+#[tactic(auto, using(fields::proofs::Parts::laws), unfolding(fields::specs::Answers::forget, penne::specs::Read::read_boolean, penne::specs::Reader::ret))]
 fn boolean(tree: &[u8], at: usize) -> Result<usize, Refusal>
     ensures { Skips read_boolean tree.now at result }
 {
     let (_, at) = below(tree, 2, at)?;
-    let (_, at) = number(tree, at)?;
-    Ok(at)
+    place(tree, at)
 }
 
 // A signed or a bit integer: both are read alike.
-#[tactic(auto, using(fields::proofs::Parts::laws), unfolding(fields::specs::Answers::forget, penne::specs::Read::read_integer, penne::specs::Read::place, penne::specs::Reader::ret))]
+#[tactic(auto, using(fields::proofs::Parts::laws), unfolding(fields::specs::Answers::forget, penne::specs::Read::read_integer, penne::specs::Reader::ret))]
 fn integer(tree: &[u8], names: u32, at: usize, left: u32) -> Result<usize, Refusal>
     ensures { (Ends (read_integer signed (read_ty left false)) tree.now names at result) × (Ends (read_integer bits (read_ty left false)) tree.now names at result) }
 {
     let at = raw(tree, at, 16)?;
-    let (_, at) = number(tree, at)?;
+    let at = place(tree, at)?;
     carried(tree, names, at, left)
 }
 
-#[tactic(auto, using(fields::proofs::Parts::laws), unfolding(fields::specs::Answers::forget, penne::specs::Read::read_string, penne::specs::Read::place, penne::specs::Reader::ret))]
-fn string(tree: &[u8], at: usize) -> Result<usize, Refusal>
-    ensures { Skips read_string tree.now at result }
-{
-    let at = bytes(tree, at)?;
-    let (_, at) = number(tree, at)?;
-    Ok(at)
-}
-
 #[cycle(node)]
-#[tactic(auto, using(fields::proofs::Parts::laws), unfolding(fields::specs::Answers::forget, penne::specs::Read::read_array_literal, penne::specs::Read::place, penne::specs::Reader::ret))]
+#[tactic(auto, using(fields::proofs::Parts::laws), unfolding(fields::specs::Answers::forget, penne::specs::Read::read_array_literal, penne::specs::Reader::ret))]
 fn array_literal(tree: &[u8], names: u32, at: usize, left: u32) -> Result<usize, Refusal>
     ensures { Ends (read_array_literal (read left) (read_ty left false)) tree.now names at result }
 {
-    let (_, at) = number(tree, at)?;
+    let at = place(tree, at)?;
     let at = carried(tree, names, at, left)?;
     let at = expressions(tree, names, at, left)?;
-    let (_, at) = number(tree, at)?;
-    Ok(at)
+    past_number(tree, at)
 }
 
 #[cycle(node)]
-#[tactic(auto, using(fields::proofs::Parts::laws), unfolding(fields::specs::Answers::forget, penne::specs::Read::read_structural, penne::specs::Read::place, penne::specs::Reader::ret))]
+#[tactic(auto, using(fields::proofs::Parts::laws), unfolding(fields::specs::Answers::forget, penne::specs::Read::read_structural, penne::specs::Reader::ret))]
 fn structural(tree: &[u8], names: u32, at: usize, left: u32) -> Result<usize, Refusal>
     ensures { Ends (read_structural (read left) (read_ty left false)) tree.now names at result }
 {
-    let (_, at) = number(tree, at)?;
+    let at = place(tree, at)?;
     let at = items(tree, names, at, left)?;
     maybe_type(tree, names, false, at, left)
 }
 
 #[cycle(node)]
-#[tactic(auto, using(fields::proofs::Parts::laws), unfolding(fields::specs::Answers::forget, penne::specs::Read::read_parenthesized, penne::specs::Read::place, penne::specs::Reader::ret))]
+#[tactic(auto, using(fields::proofs::Parts::laws), unfolding(fields::specs::Answers::forget, penne::specs::Read::read_parenthesized, penne::specs::Reader::ret))]
 fn parenthesized(tree: &[u8], names: u32, at: usize, left: u32) -> Result<usize, Refusal>
     ensures { Ends (read_parenthesized (read left)) tree.now names at result }
 {
-    let (_, at) = number(tree, at)?;
+    let at = place(tree, at)?;
     expression(tree, names, at, left)
 }
 
@@ -156,19 +149,19 @@ fn type_cast(tree: &[u8], names: u32, at: usize, left: u32) -> Result<usize, Ref
 }
 
 #[cycle(node)]
-#[tactic(auto, using(fields::proofs::Parts::laws), unfolding(fields::specs::Answers::forget, penne::specs::Read::read_length_of_array, penne::specs::Read::place, penne::specs::Reader::ret))]
+#[tactic(auto, using(fields::proofs::Parts::laws), unfolding(fields::specs::Answers::forget, penne::specs::Read::read_length_of_array, penne::specs::Reader::ret))]
 fn length_of_array(tree: &[u8], names: u32, at: usize, left: u32) -> Result<usize, Refusal>
     ensures { Ends (read_length_of_array (read left)) tree.now names at result }
 {
-    let (_, at) = number(tree, at)?;
+    let at = place(tree, at)?;
     reference(tree, names, at, left)
 }
 
-#[tactic(auto, using(fields::proofs::Parts::laws), unfolding(fields::specs::Answers::forget, penne::specs::Read::read_size_of, penne::specs::Read::place, penne::specs::Reader::ret))]
+#[tactic(auto, using(fields::proofs::Parts::laws), unfolding(fields::specs::Answers::forget, penne::specs::Read::read_size_of, penne::specs::Reader::ret))]
 fn size_of(tree: &[u8], names: u32, at: usize, left: u32) -> Result<usize, Refusal>
     ensures { Ends (read_size_of (read_ty left false)) tree.now names at result }
 {
-    let (_, at) = number(tree, at)?;
+    let at = place(tree, at)?;
     value_type(tree, names, false, at, left)
 }
 
@@ -178,7 +171,7 @@ fn function_call(tree: &[u8], names: u32, at: usize, left: u32) -> Result<usize,
     ensures { Ends (read_function_call (read left) (read_ty left false)) tree.now names at result }
 {
     let at = past_identifier(tree, names, at)?;
-    let (_, at) = number(tree, at)?;
+    let at = past_number(tree, at)?;
     let at = carried(tree, names, at, left)?;
     expressions(tree, names, at, left)
 }
@@ -215,7 +208,7 @@ fn item(tree: &[u8], names: u32, at: usize, left: u32) -> Result<usize, Refusal>
     ensures { Ends (item_of (read left)) tree.now names at result }
 {
     let at = maybe_identifier(tree, names, at)?;
-    let (_, at) = number(tree, at)?;
+    let at = past_number(tree, at)?;
     expression(tree, names, at, left)
 }
 
@@ -245,6 +238,7 @@ fn steps(tree: &[u8], names: u32, at: usize, left: u32) -> Result<usize, Refusal
     Ok(at)
 }
 
+// An element, or a member, which is an identifier and a number.
 #[cycle(node)]
 #[tactic(auto, using(crate::proofs::Nodes::step_is, crate::proofs::Nodes::element_is, crate::proofs::Nodes::member_is), unfolding(fields::specs::Answers::forget))]
 fn step(tree: &[u8], names: u32, at: usize, left: u32) -> Result<usize, Refusal>
@@ -257,7 +251,7 @@ fn step(tree: &[u8], names: u32, at: usize, left: u32) -> Result<usize, Refusal>
     if kind == 0 {
         element(tree, names, next, left - 1)
     } else {
-        member(tree, names, next)
+        identifier_and_number(tree, names, next)
     }
 }
 
@@ -268,16 +262,6 @@ fn element(tree: &[u8], names: u32, at: usize, left: u32) -> Result<usize, Refus
 {
     let (_, at) = below(tree, 3, at)?;
     expression(tree, names, at, left)
-}
-
-// The expressions that a member step does not have are left aside.
-#[tactic(auto, using(fields::proofs::Parts::laws), unfolding(fields::specs::Answers::forget, penne::specs::Read::step_of, penne::specs::Reader::ret))]
-fn member(tree: &[u8], names: u32, at: usize) -> Result<usize, Refusal>
-    ensures { Ends (step_of (read 0) 1) tree.now names at result }
-{
-    let at = past_identifier(tree, names, at)?;
-    let (_, at) = number(tree, at)?;
-    Ok(at)
 }
 
 #[tactic(auto, using(fields::proofs::Parts::option_is))]

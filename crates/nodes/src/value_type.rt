@@ -1,11 +1,11 @@
 // Types. `own` is set in a constant's or member's own type, as far as kinds 14 to 19 reach: there kind 23 is refused.
 // `left` is how many levels of nesting are left.
 ghost use Rattle.std.specs.Prelude.{false, get_or};
-ghost use Rattle.penne.specs.Read.{read_ty, ty_of, ty_kinds, k_plain, k_array, k_named_length, k_word, maybe, option};
+ghost use Rattle.penne.specs.Read.{read_ty, ty_of, ty_kinds, k_plain, k_array, k_named_length, maybe, option};
 ghost use Rattle.fields.specs.Answers.{Ends};
 
-use fields::field::past_identifier;
-use fields::number::{below, number};
+use fields::field::{identifier_and_number, past_identifier};
+use fields::number::{below, past_number};
 use fields::poison::poison;
 use fields::refusal::{Reason, Refusal};
 
@@ -30,7 +30,7 @@ pub fn value_type(
     type_of(tree, names, own, next, left - 1, kind)
 }
 
-// What follows a type's kind.
+// What follows a type's kind. The kinds are the form's own numbers, each beside its reader, so that all are seen at a glance.
 #[cycle(value_type)]
 #[tactic(auto, using(crate::proofs::Types::kinds))]
 fn type_of(
@@ -49,7 +49,7 @@ fn type_of(
         15 => array_with_named_length(tree, names, own, at, left),
         16..=19 => value_type(tree, names, own, at, left),
         20 | 22 => past_identifier(tree, names, at),
-        21 => word(tree, names, at),
+        21 => identifier_and_number(tree, names, at), // a word
         24 | 25 => value_type(tree, names, false, at, left),
         _ => Ok(at),
     }
@@ -61,8 +61,7 @@ fn array(tree: &[u8], names: u32, own: bool, at: usize, left: u32) -> Result<usi
     ensures { Ends (ty_of (read_ty left own) (read_ty left false) 14 k_array) tree.now names at result }
 {
     let at = value_type(tree, names, own, at, left)?;
-    let (_, at) = number(tree, at)?;
-    Ok(at)
+    past_number(tree, at)
 }
 
 #[cycle(value_type)]
@@ -78,16 +77,6 @@ fn array_with_named_length(
 {
     let at = value_type(tree, names, own, at, left)?;
     past_identifier(tree, names, at)
-}
-
-// The element types, which a word does not have, are left aside.
-#[tactic(auto, using(fields::proofs::Parts::laws), unfolding(fields::specs::Answers::forget, penne::specs::Read::ty_of, penne::specs::Reader::ret))]
-fn word(tree: &[u8], names: u32, at: usize) -> Result<usize, Refusal>
-    ensures { Ends (ty_of (read_ty 0 false) (read_ty 0 false) 21 k_word) tree.now names at result }
-{
-    let at = past_identifier(tree, names, at)?;
-    let (_, at) = number(tree, at)?;
-    Ok(at)
 }
 
 #[tactic(auto, using(fields::proofs::Parts::maybe_is))]

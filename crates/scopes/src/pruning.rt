@@ -2,6 +2,7 @@
 //
 // The Rust intersects the sets of variables in scope at the gotos to a label. A variable of the label's own layer that stands at the label was in scope at a goto
 // exactly when it was declared before; ids grow, so it is enough to note which id came next at the first goto.
+// Notes and fates are words of the work memory: 0 for no goto yet, and for a variable that stands.
 ghost use Rattle.scopes.specs.Jumps.{Prepares, Prunes, Becomes, Poisons, PrunesOne};
 
 use super::scope::Scope;

@@ -1,4 +1,4 @@
-// The layers of local variables laid end to end, the outermost first. Of each name the head says which entry comes first.
+// The layers of local variables laid end to end, the outermost first. Of each name the head says which entry comes first: a word of the work memory, so that it is 1 + the entry's number, or 0 for none.
 ghost use Rattle.scopes.specs.Calls.{Begins, Opens, Closes, Declares, Searches, LocalAt, Enters, Leads, Vacates};
 
 use memory::layout::{HEADS, LOCAL_FATE, LOCAL_FROM, LOCAL_ID, LOCAL_NAME, LOCAL_PLACE};
@@ -20,12 +20,14 @@ pub struct Local {
     pub id: u32,
 }
 
-const NO_LOCAL: Local = Local {
-    name: 0,
-    place: 0,
-    from: 0,
-    id: 0,
-};
+impl Local {
+    pub const NONE: Local = Local {
+        name: 0,
+        place: 0,
+        from: 0,
+        id: 0,
+    };
+}
 
 impl Scope {
     #[tactic(auto, using(crate::proofs::Scoping::begun))]
@@ -90,7 +92,7 @@ pub fn local_at(table: &[u32], k: usize) -> Local
     ensures { LocalAt table.now k result }
 {
     if 1024 <= k {
-        return NO_LOCAL;
+        return Local::NONE;
     }
     Local {
         name: word(table, LOCAL_NAME + k),

@@ -8,7 +8,7 @@ use walk::fault::{Fault, duplicate};
 use walk::names::{find_function_in, function_at};
 use walk::state::Walk;
 
-// The poison in the place of a declaration whose name was declared before it.
+// The poison in the place of a declaration whose name was declared before it. Its kind is the number that the tree has and the tables keep: 0 a constant, 3 a structure.
 pub fn declared_before(work: &[u32], st: &Walk, kind: u32, i: Identifier) -> Option<Fault>
     ensures { DeclaredBefore kind st.now i work.now result }
 {

@@ -66,7 +66,7 @@ fn depth_of(tree: &[u8], work: &[u32], script: &Script, counts: Counts, at: usiz
     }
 }
 
-// Only constants and structures are containers.
+// Only constants (0) and structures (3) are containers; their kinds are the tree's numbers.
 fn named_depth(work: &[u32], script: &Script, kind: u32, name: u32, row: u32) -> u32
     ensures { NamedDepth script.now kind name row work.now result }
 {

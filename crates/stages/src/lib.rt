@@ -1,5 +1,5 @@
 // What the second pass does before and behind its walk: it reads the heads of declarations alone.
-// The reader let the tree pass, so that all of it can be read again: here a refusal never comes, and none is passed on.
+// The reader let the tree pass, so that all of it can be read again: here a refusal never comes, and where one would, the function stops.
 #![tactic(auto)]
 
 pub mod heads; // what stands before a declaration's parts

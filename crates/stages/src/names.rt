@@ -22,6 +22,7 @@ pub fn then_names(tree: &[u8], answer: &mut [u8]) -> Wrote
         let Ok((length, from)) = number(tree, at) else {
             return w;
         };
+        // Neither is so in a tree that was read before: it keeps the sum below from overflowing.
         if 64 < length || 65535 < from {
             return w;
         }
@@ -50,6 +51,7 @@ pub fn main_name(tree: &[u8]) -> u32
         let Ok((length, from)) = number(tree, at) else {
             return count;
         };
+        // Neither is so in a tree that was read before: it keeps the sum below from overflowing.
         if 64 < length || 65535 < from {
             return count;
         }

@@ -57,6 +57,7 @@ fn predeclare(tree: &[u8], work: &mut [u32], names: u32, counts: Counts, at: usi
     }
 }
 
+// Constants (0) and structures (3) are containers, all else that has a name is a function; the table keeps the tree's number of the kind.
 fn push(work: &mut [u32], kind: u32, counts: Counts, i: Identifier, id: u32)
     ensures { Pushed kind counts i id work.old work.new }
 {

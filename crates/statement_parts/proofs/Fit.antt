@@ -83,7 +83,7 @@ good_unbehind a z = record { few = z.few; fit = sym (and_yes a.rest.fit) ∙ z.f
 -- more has to fit
 pub fitting : {s : Walk} {o l w : List ℕ} {a : Ground} (b : Bool) → Is s o l w a → Is s o l w (record { out = a.out; st = a.st; rest = leaving a.rest.words b a.rest })
 unfolding leaving
-fitting {s} {a = a} b i = counted i {k = s.counts} (leaving a.rest.words b a.rest) (omega arith) refl refl refl (λ f. (and_true _ _ f).0) (λ f m. record { told = m.told; named = m.named; labels = m.labels; containers = m.containers; functions = m.functions; main = m.main }) (record { is = refl })
+fitting {s} {a = a} b i = counted i {k = s.counts} (leaving a.rest.words b a.rest) (omega arith) refl refl refl (λ f. (and_true _ _ f).0) (λ f m. record { told = m.told; named = m.named; labels = m.labels; containers = m.containers; functions = m.functions; main = m.main })
 
 -- A STATEMENT THAT CAN NOT BE READ
 

@@ -90,7 +90,7 @@ module _ {t : List ℕ} {s : Walk} {r₁ : Result (Identifier × ℕ) Refusal} (
       does = λ h l {s₀} a i₀ q xs b gr few room i.
           let m = naming h l a xs b gr few room i in
           let up = (grown_declare 4 (ident_of s.at j) b).takes.lower in
-          let i₂ = instead (fitting (is_free b) i₀) xs (omega arith) m.is (subst (λ (y : Wrote). Put y (num_b 8 ++ fault_b f) o x o') q put) (record { is = refl }) in
+          let i₂ = instead (fitting (is_free b) i₀) xs (omega arith) m.is (subst (λ (y : Wrote). Put y (num_b 8 ++ fault_b f) o x o') q put) in
           leads_just (g.is _ ∙ ap (identified_of s.script.names s.at (counts_of s.counts)) e) (record {
             cur = ap (λ (y : Cur). cursor n y.names y.counts) (sym m.cur);
             is = is_same (λ z. let y = made_refused (m.made (record { few = z.few; fit = z.fit })) not in name_bad a xs b (ident_of s.at j) f y.1 y.2) (moved_on i₂);

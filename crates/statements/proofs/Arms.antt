@@ -27,14 +27,14 @@ use Rattle.answer.proofs.Fields.{identifier_bytes}
 use Rattle.label_references.specs.Marked.{marked, rest}
 use Rattle.walk.specs.declared.state.Walk.{Walk}
 use Rattle.walk.specs.declared.fault.Fault.{Fault}
-use Rattle.walk.specs.Walking.{moved_to, with_wrote, Moves, Writes, Ground, Good, Is, onward, say, say_poison, Walks, fault_b, made_b, Used, Made, Uses}
-use Rattle.walk.proofs.Leading.{leads_read, leads_unread, leads_identified, leads_place, leads_call, leads_end, leads_last}
+use Rattle.walk.specs.Walking.{moved_to, with_wrote, Ground, Good, Is, onward, say, say_poison, Walks, fault_b, made_b, Used, Made, Uses}
+use Rattle.walk.proofs.Leading.{leads_at, leads_read, leads_unread, leads_identified, leads_place, leads_call, leads_end, leads_last}
 use Rattle.walk.proofs.Writing.{instead, moved_on, wrote_on}
 use Rattle.walk.proofs.Copying.{spells_is}
 use Rattle.walk.proofs.Using.{made_used, made_refused}
 use Rattle.expression_parts.specs.Expressing.{nodes, nodes_b, list_walk, Headed}
-use Rattle.expression_parts.proofs.Onward.{out_same, on, leads_on}
-use Rattle.expression_parts.proofs.Names.{called_same, number_spelled}
+use Rattle.expression_parts.proofs.Onward.{out_same}
+use Rattle.expression_parts.proofs.Names.{called_same, number_spelled, headed_is, here_headed}
 use Rattle.statement_parts.specs.Stating.{fits, leaving, stm_walk, behind, Follows, Anything, Entered, Worded, Numbered}
 use Rattle.statement_parts.proofs.Fit.{good_before, good_behind}
 
@@ -143,15 +143,13 @@ module _ {t : List ℕ} {s : Walk} {r₁ : Result (Identifier × ℕ) Refusal} (
       unfolding read_method_call
       method_as {v} {s₁} {o₁} made hd c = record {
         does = λ h a _ i.
-            let put = subst (λ (ys : List ℕ). Put s.wrote (num_b 2 ++ (made_b v ++ ys)) o hd.wrote o₁) (spells_is (number_spelled g₁ f)) hd.put in
-            let wr : Writes s hd.wrote (with_wrote s hd.wrote) = record { is = refl } in
-            let mv : Moves (with_wrote s hd.wrote) n₁ s₁ = record { is = hd.is } in
-            leads_identified _ g e (leads_read _ (reads g₁) f (leads_on wr mv (leads_call _ c h (on i put wr mv) λ es q i₁. leads_end (method_call _ b (to_nodes es)) refl i₁ λ z. method_is _ b es a (made_used (looked b k (method_call (ident_of s.at j) b (to_nodes es)) a i z) made))));
+            let j₁ = subst (λ (ys : List ℕ). Is s₁ o₁ l w (say (num_b 2 ++ (made_b v ++ ys)) (behind a))) (spells_is (number_spelled g₁ f)) (headed_is i hd) in
+            leads_identified _ g e (leads_read _ (reads g₁) f (leads_at (here_headed hd) (leads_call _ c h j₁ λ es q i₁. leads_end (method_call _ b (to_nodes es)) refl i₁ λ z. method_is _ b es a (made_used (looked b k (method_call (ident_of s.at j) b (to_nodes es)) a i z) made))));
       }
 
       pub method_refused : {v : Fault} {s₁ : Walk} {x : Wrote} {o₁ : List ℕ} → u ≡ Err v → Walks t (listed (read left expr)) list_walk (moved_to s n₁) o l w s₁ o₁ l' w' → Put s.wrote (num_b 8 ++ fault_b v) o₁ x o' → Follows P t (read_method_call left) s o l w (with_wrote s₁ x) o' l' w'
       unfolding read_method_call behind
       method_refused {v} not c put = record {
         does = λ h a _ i. leads_identified _ g e (leads_read _ (reads g₁) f (leads_call _ c h (moved_on i) λ es q i₁.
-            leads_end (method_call _ b (to_nodes es)) refl (instead i _ (nodes_grown es a.st) i₁ put (record { is = refl })) λ z. let y = made_refused (looked b k (method_call (ident_of s.at j) b (to_nodes es)) a i z) not in method_bad (ident_of s.at j) b es a v y.1 y.2));
+            leads_end (method_call _ b (to_nodes es)) refl (instead i _ (nodes_grown es a.st) i₁ put) λ z. let y = made_refused (looked b k (method_call (ident_of s.at j) b (to_nodes es)) a i z) not in method_bad (ident_of s.at j) b es a v y.1 y.2));
       }

@@ -105,7 +105,7 @@ marks_on {k = k} {c} {w} {m} d h =
 
 counted_is : {x : StmtKind} {s : Walk} {o l w : List ℕ} {a : Ground} {c : K.Counts} → More x s.counts c → Is s o l w a → Is (with_counts s c) o l w (behind a)
 unfolding behind leaving
-counted_is {a = a} {c} d i = let q = d.entries in W.counted i (leaving (rest a.rest.words) true a.rest) (omega arith) refl refl refl (λ f. (and_true _ _ f).0) (λ f h. marks_on d h) (record { is = refl })
+counted_is {a = a} {c} d i = let q = d.entries in W.counted i (leaving (rest a.rest.words) true a.rest) (omega arith) refl refl refl (λ f. (and_true _ _ f).0) (λ f h. marks_on d h)
 
 -- THE STATEMENT GOES ON
 

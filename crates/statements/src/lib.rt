@@ -44,7 +44,7 @@ pub fn stmt(
     statement_of(tree, answer, list, work, st, left - 1, k, n);
 }
 
-// What follows a statement's kind; `n` is the statement's number.
+// What follows a statement's kind, by the form's number, as in `types`; `n` is the statement's number.
 #[cycle(statements)]
 #[tactic(auto, using(crate::proofs::Arms::plain, crate::proofs::Arms::entered, crate::proofs::Arms::worded), unfolding(penne::specs::Read::stmt_of, penne::specs::Read::stmt_kinds))]
 fn statement_of(

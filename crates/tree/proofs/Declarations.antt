@@ -3,15 +3,15 @@ use Rattle.std.proofs.Common.{ℕ, ◌≤◌, ◌≡◌, refl, sym, ap, ◌∙�
 use lib.Dec.{lit≤}
 use Rattle.penne.specs.Reader.{Cur, Got, got, refused, Reader, ◌>>=◌, ret, below, listed}
 use Rattle.tree.specs.Parts.{headed}
-use Rattle.penne.specs.Tree.{Spot, Ident, constant, function, function_head, bad_decl, expr}
+use Rattle.penne.specs.Tree.{Spot, Ident, constant, function, function_head, import, bad_decl, expr}
 use Rattle.penne.specs.Read.{place, ident, maybe, read, read_ty, read_poison, read_body, read_param, read_decl, decl_head, decl_of, DeclKind, decl_kinds, decl_counts, k_constant, k_function, k_function_head, k_structure, k_import, k_bad_decl, read_constant, read_function, read_function_head, read_structure, read_import}
 use Rattle.std.specs.Prelude.{None, Ok, Err}
 use Rattle.fields.specs.declared.counts.Counts as C
 use Rattle.fields.specs.declared.refusal.Reason.TheVariants.{TooMany}
 use Rattle.fields.specs.declared.refusal.Refusal.{Refusal}
-use Rattle.fields.specs.Answers.{forget, counts_of, together, Gives, Passes, Counting, two_places}
+use Rattle.fields.specs.Answers.{forget, counts_of, together, Gives, Passes, Counting, bytes_and_place, two_places}
 use Rattle.fields.proofs.Chain.{assoc, places_same}
-use Rattle.fields.proofs.Parts.{tail_is}
+use Rattle.fields.proofs.Parts.{tail_is, bytes_and_place_is}
 use Rattle.tree.proofs.Statements.{counted_end, first_end, first_is, looked_up, look_is, from_last}
 
 abbrev pub kind_of : ℕ → DeclKind
@@ -62,9 +62,9 @@ module _ (d k : ℕ) (s : List ℕ) (c : Cur) where
   unfolding decl_of decl_kinds
   structure_kind e = as_kind k_structure (rw e)
 
-  pub import_kind : k ≡ 4 → forget (decl_of d (kind_of k) s c) ≡ forget (read_import s c)
-  unfolding decl_of decl_kinds
-  import_kind e = as_kind k_import (rw e)
+  pub import_kind : k ≡ 4 → forget (decl_of d (kind_of k) s c) ≡ forget (bytes_and_place s c)
+  unfolding decl_of decl_kinds read_import
+  import_kind e = as_kind k_import (rw e) ∙ bytes_and_place_is import s c
 
   pub poison_kind : 5 ≤ k → forget (decl_of d (kind_of k) s c) ≡ forget (read_poison s c)
   unfolding decl_of

@@ -13,8 +13,7 @@ use Rattle.penne.specs.Read.{read_decl}
 use Rattle.fields.specs.declared.counts.Counts as C
 use Rattle.std.specs.Prelude.{Ok}
 use Rattle.fields.specs.Answers.{Passes}
-use Rattle.tree.specs.Ends.{counts_in, Row, row_at, Sound, Known, Same, Tells, Writes, Notes}
-use Rattle.penne.proofs.Booleans.{true_false}
+use Rattle.tree.specs.Ends.{counts_in, Row, row_at, Sound, Known, Tells, Writes, Notes}
 use Rattle.std.proofs.lemmas.List.{get_or_past}
 
 -- ONE WORD
@@ -35,13 +34,6 @@ stored m i v {m'} e = record {
 
 pub counts_path : {a b : C.Counts} → a.containers ≡ b.containers → a.functions ≡ b.functions → a.entries ≡ b.entries → a.statements ≡ b.statements → a ≡ b
 counts_path e₁ e₂ e₃ e₄ = λ t. record { containers = e₁ t; functions = e₂ t; entries = e₃ t; statements = e₄ t }
-
-module _ {a b : C.Counts} where
-  pub not_same : Same a b false
-  not_same = record { is = λ e. true_false (sym e) }
-
-  pub all_same : {r : Bool} → a.containers ≡ b.containers → a.functions ≡ b.functions → a.entries ≡ b.entries → (r ≡ true → a.statements ≡ b.statements) → Same a b r
-  all_same e₁ e₂ e₃ h = record { is = λ e. counts_path e₁ e₂ e₃ (h e) }
 
 module _ (m : List ℕ) {m₁ m₂ m₃ m₄ : List ℕ} (i : ℕ) (k : C.Counts) (e₁ : m₁ ≡ set m i k.containers) (e₂ : m₂ ≡ set m₁ (i + 1) k.functions) (e₃ : m₃ ≡ set m₂ (i + 2) k.entries) (e₄ : m₄ ≡ set m₃ (i + 3) k.statements) where
   pub counts_written : Writes m i k m₄
@@ -148,13 +140,6 @@ pub notes_not : {k : C.Counts} {at next : ℕ} {more : C.Counts} {m : List ℕ} 
 notes_not = record { keeps = λ p g. g }
 
 -- BELIEVED
-
-module _ {m : List ℕ} {i at : ℕ} {k : C.Counts} where
-  pub tells_not : Tells m i k at false
-  tells_not = record { some = λ e. true_false (sym e); begins = λ e. true_false (sym e); counts = λ e. true_false (sym e) }
-
-  pub tells_of : {w₁ w₂ : ℕ} {c : C.Counts} {r : Bool} → w₁ ≡ get_or m (i + 9) 0 → (w₁ ≡ 0 → ⊥) → w₂ ≡ get_or m i 0 → w₂ ≡ at → c ≡ counts_in m (i + 1) → Same c k r → Tells m i k at r
-  tells_of e₁ z e₂ e e₃ h = record { some = λ q y. z (e₁ ∙ y); begins = λ q. sym e₂ ∙ e; counts = λ q. sym e₃ ∙ h.is q }
 
 pub past_told : {s m : List ℕ} {names at next : ℕ} {k c : C.Counts} {t : Bool} (row : ℕ) → Tells m (row % 384 * 10) k at t → t ≡ true → next ≡ get_or m (row % 384 * 10 + 9) 0 → c ≡ counts_in m (row % 384 * 10 + 5) → Known s names m → Passes read_decl s names k at (Ok (next, c))
 past_told {s} {m} {names} {at} {next} {k} {c} row h e q y g =

@@ -3,15 +3,15 @@ use Rattle.std.proofs.Common.{ℕ, zero, suc, ◌+◌, ◌-◌, ◌≤◌, ◌�
 use lib.Dec.{eqb, lit≤}
 use borrow.Author.Tests.{ne_eqb, eqb-true, eqb-false}
 use Rattle.penne.specs.Reader.{Counts, Cur, Got, got, refused, Reader, ◌>>=◌, ret, num, below, fits, plus, counted, counting, too_deep, an_entry}
-use Rattle.tree.specs.Parts.{comparison}
+use Rattle.nodes.specs.Parts.{operation}
 use Rattle.penne.specs.Tree.{Spot, Expr, stmt, Stm, goto, label, loop, if_else, no_else, or_else, bad_stmt, expr}
 use Rattle.penne.specs.Read.{place, read, read_poison, read_stmt, stmt_head, stmt_of, StmtKind, stmt_kinds, stmt_counts, k_declaration, k_assignment, k_method_call, k_loop, k_goto, k_label, k_if, k_block, k_bad_stmt, read_declaration, read_assignment, read_method_call, read_jump, read_if, read_block, else_of}
 use Rattle.fields.specs.declared.counts.Counts as C
 use Rattle.fields.specs.declared.refusal.Reason.TheVariants.{TooDeep, TooMany}
 use Rattle.fields.specs.declared.refusal.Refusal.{Refusal}
-use Rattle.fields.specs.Answers.{cursor, forget, Gives, Passes, Counting, counts_of, together, operator}
+use Rattle.fields.specs.Answers.{cursor, forget, Gives, Passes, Counting, counts_of, together, identifier_and_number, operator}
 use Rattle.fields.proofs.Chain.{after, then_is, assoc, operator_same}
-use Rattle.fields.proofs.Parts.{tail_is, by_tag, either_is, place_got, place_refused}
+use Rattle.fields.proofs.Parts.{tail_is, identifier_and_place_is, by_tag, either_is, place_got, place_refused}
 use Rattle.fields.proofs.Counting.{counts_in, counting_is}
 use Rattle.std.proofs.lemmas.List.{get_or_past}
 
@@ -130,13 +130,13 @@ module _ (d : ℕ) (m : Reader (Stm Spot stmt)) (k : ℕ) (s : List ℕ) (c : Cu
   unfolding stmt_of stmt_kinds
   loop_kind e = as_kind k_loop (rw e) ∙ tail_is loop place s c
 
-  pub goto_kind : k ≡ 4 → forget (stmt_of d m (kind_of k) s c) ≡ forget (read_jump goto s c)
-  unfolding stmt_of stmt_kinds
-  goto_kind e = as_kind k_goto (rw e)
+  pub goto_kind : k ≡ 4 → forget (stmt_of d m (kind_of k) s c) ≡ forget (identifier_and_number s c)
+  unfolding stmt_of stmt_kinds read_jump
+  goto_kind e = as_kind k_goto (rw e) ∙ identifier_and_place_is goto s c
 
-  pub label_kind : k ≡ 5 → forget (stmt_of d m (kind_of k) s c) ≡ forget (read_jump label s c)
-  unfolding stmt_of stmt_kinds
-  label_kind e = as_kind k_label (rw e)
+  pub label_kind : k ≡ 5 → forget (stmt_of d m (kind_of k) s c) ≡ forget (identifier_and_number s c)
+  unfolding stmt_of stmt_kinds read_jump
+  label_kind e = as_kind k_label (rw e) ∙ identifier_and_place_is label s c
 
   pub if_kind : k ≡ 6 → forget (stmt_of d m (kind_of k) s c) ≡ forget (read_if d m s c)
   unfolding stmt_of stmt_kinds
@@ -153,15 +153,15 @@ module _ (d : ℕ) (m : Reader (Stm Spot stmt)) (k : ℕ) (s : List ℕ) (c : Cu
 pub ruleset kinds = (declaration_kind, assignment_kind, method_call_kind, loop_kind, goto_kind, label_kind, if_kind, block_kind, poison_kind, then_is)
 
 -- the condition of an If, read at once
-condition_same : {B : Type 0} (d : ℕ) (K : ℕ → Spot × Spot → Expr Spot → Expr Spot → Reader B) → (num >>= λ op. place >>= λ p. place >>= λ q. read d expr >>= λ x. read d expr >>= λ y. K op (p, q) x y) ≡ (comparison d >>= λ t. K t.0.0 t.0.1 t.1.0 t.1.1)
-unfolding comparison ◌>>=◌ ret
+condition_same : {B : Type 0} (d : ℕ) (K : ℕ → Spot × Spot → Expr Spot → Expr Spot → Reader B) → (num >>= λ op. place >>= λ p. place >>= λ q. read d expr >>= λ x. read d expr >>= λ y. K op (p, q) x y) ≡ (operation (read d) >>= λ t. K t.0.0 t.0.1 t.1.0 t.1.1)
+unfolding operation ◌>>=◌ ret
 condition_same d K =
     operator_same (λ op p. read d expr >>= λ x. read d expr >>= λ y. K op p x y) ∙
     sym (assoc {B = (ℕ × (Spot × Spot)) × (Expr Spot × Expr Spot)} operator (λ o. read d expr >>= λ x. read d expr >>= λ y. ret (o, (x, y))) (λ t. K t.0.0 t.0.1 t.1.0 t.1.1) ∙
     ap (λ (g : ℕ × (Spot × Spot) → Reader _). operator >>= g) (λ j o. (assoc {B = (ℕ × (Spot × Spot)) × (Expr Spot × Expr Spot)} (read d expr) (λ x. read d expr >>= λ y. ret (o, (x, y))) (λ t. K t.0.0 t.0.1 t.1.0 t.1.1) ∙ ap (λ (g : Expr Spot → Reader _). read d expr >>= g) (λ l x. assoc {B = (ℕ × (Spot × Spot)) × (Expr Spot × Expr Spot)} (read d expr) (λ y. ret (o, (x, y))) (λ t. K t.0.0 t.0.1 t.1.0 t.1.1) l)) j))
 
 module _ (m : Reader (Stm Spot stmt)) (s : List ℕ) (c : Cur) where
-  pub if_is : (d : ℕ) → forget (read_if d m s c) ≡ forget ((place >>= λ p. comparison d >>= λ t. m >>= λ a. else_of m >>= λ b. ret (if_else p t.0.0 t.0.1.0 t.0.1.1 t.1.0 t.1.1 a b)) s c)
+  pub if_is : (d : ℕ) → forget (read_if d m s c) ≡ forget ((place >>= λ p. operation (read d) >>= λ t. m >>= λ a. else_of m >>= λ b. ret (if_else p t.0.0 t.0.1.0 t.0.1.1 t.1.0 t.1.1 a b)) s c)
   unfolding read_if
   if_is d = ap (λ (g : Spot → Reader (Stm Spot stmt)). forget ((place >>= g) s c)) (λ i p. condition_same d (λ op q x y. m >>= λ a. else_of m >>= λ b. ret (if_else p op q.0 q.1 x y a b)) i)
 

@@ -29,10 +29,6 @@ pub record Sound (s : List ℕ) (names : ℕ) (r : Row) : Type 0 where
 pub record Known (s : List ℕ) (names : ℕ) (m : List ℕ) : Type 0 where
   pub row : (k : ℕ) → Sound s names (row_at m (k * 10))
 
--- where r says so, both are the same
-pub record Same (a b : C.Counts) (r : Bool) : Type 0 where
-  pub is : r ≡ true → a ≡ b
-
 -- where r says so, the row that begins at word i tells of the declaration at `at`
 pub record Tells (m : List ℕ) (i : ℕ) (k : C.Counts) (at : ℕ) (r : Bool) : Type 0 where
   pub some : r ≡ true → get_or m (i + 9) 0 ≡ 0 → ⊥

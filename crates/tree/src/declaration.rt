@@ -1,13 +1,13 @@
 // Declarations. They stand at nesting 1, so that 63 levels are left below them.
 ghost use Rattle.std.specs.Prelude.{get_or};
 ghost use Rattle.penne.specs.Reader.{listed};
-ghost use Rattle.penne.specs.Read.{read_decl, decl_of, decl_kinds, k_bad_decl, read_constant, read_function, read_function_head, read_structure, read_import, read_param};
-ghost use Rattle.fields.specs.Answers.{Ends, Skips, Passes};
+ghost use Rattle.penne.specs.Read.{read_decl, decl_of, decl_kinds, k_bad_decl, read_constant, read_function, read_function_head, read_structure, read_param};
+ghost use Rattle.fields.specs.Answers.{Ends, Passes};
 ghost use Rattle.tree.specs.Parts.{headed};
 
 use super::statement::maybe_body;
 use fields::counts::{Counts, count, declaration_counts, entry};
-use fields::field::{bytes, past_identifier, two_places};
+use fields::field::{bytes_and_place, past_identifier, place, two_places};
 use fields::number::{below, number};
 use fields::poison::{maybe_identifier, poison};
 use fields::refusal::{Reason, Refusal};
@@ -28,7 +28,7 @@ pub fn declaration(
     declaration_of(tree, names, counts, next, kind)
 }
 
-// What follows a declaration's kind.
+// What follows a declaration's kind. The kinds are the form's own numbers, each beside its reader, so that all are seen at a glance.
 #[tactic(auto, using(crate::proofs::Declarations::kinds))]
 fn declaration_of(
     tree: &[u8],
@@ -44,7 +44,7 @@ fn declaration_of(
         1 => return function(tree, names, counts, at),
         2 => return function_head(tree, names, counts, at),
         3 => return structure(tree, names, counts, at),
-        4 => import(tree, at)?,
+        4 => bytes_and_place(tree, at)?, // an import
         _ => poison(tree, names, at)?,
     };
     Ok((at, counts))
@@ -80,6 +80,7 @@ fn function(tree: &[u8], names: u32, counts: Counts, at: usize) -> Result<(usize
     Ok((at, counts))
 }
 
+// Beside `function`: a body is read in the middle there.
 #[tactic(auto, using(fields::proofs::Parts::laws, crate::proofs::Declarations::function_head_is), unfolding(fields::specs::Answers::forget, penne::specs::Reader::ret))]
 fn function_head(
     tree: &[u8],
@@ -95,25 +96,16 @@ fn function_head(
     Ok((at, counts))
 }
 
-#[tactic(auto, using(fields::proofs::Parts::laws), unfolding(fields::specs::Answers::forget, penne::specs::Read::read_structure, penne::specs::Read::place, penne::specs::Reader::ret))]
+#[tactic(auto, using(fields::proofs::Parts::laws), unfolding(fields::specs::Answers::forget, penne::specs::Read::read_structure, penne::specs::Reader::ret))]
 fn structure(tree: &[u8], names: u32, counts: Counts, at: usize) -> Result<(usize, Counts), Refusal>
     ensures { Passes (read_structure 63) tree.now names counts at result }
 {
     let (_, at) = below(tree, 32, at)?;
-    let (_, at) = number(tree, at)?;
+    let at = place(tree, at)?;
     let at = past_identifier(tree, names, at)?;
     let (at, counts) = parameters(tree, names, counts, true, at)?;
     let at = maybe_type(tree, names, false, at, 63)?;
     Ok((at, counts))
-}
-
-#[tactic(auto, using(fields::proofs::Parts::laws), unfolding(fields::specs::Answers::forget, penne::specs::Read::read_import, penne::specs::Read::place, penne::specs::Reader::ret))]
-fn import(tree: &[u8], at: usize) -> Result<usize, Refusal>
-    ensures { Skips read_import tree.now at result }
-{
-    let at = bytes(tree, at)?;
-    let (_, at) = number(tree, at)?;
-    Ok(at)
 }
 
 // A list of parameters, or of members: then `own` is set, and kind 23 is refused in their types.
@@ -145,7 +137,7 @@ fn parameter(
 ) -> Result<(usize, Counts), Refusal>
     ensures { Passes (read_param 63 own) tree.now names counts at result }
 {
-    let (_, next) = number(tree, at)?;
+    let next = place(tree, at)?;
     let counts = count(counts, entry()).ok_or(Reason::TooMany.at(at))?;
     let at = maybe_identifier(tree, names, next)?;
     let at = maybe_type(tree, names, own, at, 63)?;

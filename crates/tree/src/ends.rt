@@ -3,7 +3,7 @@
 ghost use Rattle.std.specs.Prelude.{◌≡◌, ◌+◌};
 ghost use Rattle.penne.specs.Read.{read_decl};
 ghost use Rattle.fields.specs.Answers.{Passes};
-ghost use Rattle.tree.specs.Ends.{counts_in, Known, Tells, Same, Writes, Notes};
+ghost use Rattle.tree.specs.Ends.{counts_in, Known, Tells, Writes, Notes};
 
 use super::declaration::declaration;
 use fields::counts::Counts;
@@ -39,16 +39,7 @@ fn tells(ends: &[u32], i: u32, counts: Counts, at: usize) -> bool
     let first = i as usize;
     word(ends, first + 9) != 0
         && word(ends, first) as usize == at
-        && same_counts(counts_in(ends, i, 1), counts)
-}
-
-fn same_counts(a: Counts, b: Counts) -> bool
-    ensures { Same a b result }
-{
-    a.containers == b.containers
-        && a.functions == b.functions
-        && a.entries == b.entries
-        && a.statements == b.statements
+        && counts_in(ends, i, 1) == counts
 }
 
 // The four words of a row from its word k on.

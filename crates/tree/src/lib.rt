@@ -47,7 +47,7 @@ pub fn answered(tree: &[u8]) -> Result<(), Refusal>
     Ok(())
 }
 
-// The same, with where its parts stand.
+// The same, with where its parts stand. Beside `incoming_layout`: it reads the depths otherwise, and notes no ends.
 pub fn answered_layout(tree: &[u8]) -> Result<Layout, Refusal>
     ensures { AnsweredLayout tree.now result }
 {

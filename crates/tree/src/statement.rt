@@ -1,17 +1,15 @@
 // Statements and bodies. `left` is how many levels of nesting are left.
 ghost use Rattle.std.specs.Prelude.{get_or};
-ghost use Rattle.penne.specs.Tree.{goto, label};
 ghost use Rattle.penne.specs.Reader.{listed};
-ghost use Rattle.penne.specs.Read.{maybe, read_stmt, stmt_of, stmt_kinds, k_bad_stmt, read_declaration, read_assignment, read_method_call, read_jump, read_if, read_block, else_of, read_body};
+ghost use Rattle.penne.specs.Read.{maybe, read_stmt, stmt_of, stmt_kinds, k_bad_stmt, read_declaration, read_assignment, read_method_call, read_if, read_block, else_of, read_body};
 ghost use Rattle.fields.specs.Answers.{Ends, Passes};
-ghost use Rattle.tree.specs.Parts.{comparison};
 
 use fields::counts::{Counts, count, statement_counts};
-use fields::field::{operator, past_identifier};
-use fields::number::{below, number};
+use fields::field::{identifier_and_number, past_identifier, place};
+use fields::number::{below, number, past_number};
 use fields::poison::poison;
 use fields::refusal::{Reason, Refusal};
-use nodes::node::{expression, expressions, option_expression, reference};
+use nodes::node::{expression, expressions, operation, option_expression, reference};
 use nodes::value_type::carried;
 
 #[cycle(statement)]
@@ -33,9 +31,9 @@ pub fn stmt(
     statement_of(tree, names, counts, next, left - 1, kind)
 }
 
-// What follows a statement's kind.
+// What follows a statement's kind. The kinds are the form's own numbers, each beside its reader, so that all are seen at a glance.
 #[cycle(statement)]
-#[tactic(auto, using(crate::proofs::Statements::kinds), unfolding(penne::specs::Read::place, penne::specs::Reader::ret, fields::specs::Answers::forget))]
+#[tactic(auto, using(crate::proofs::Statements::kinds), unfolding(penne::specs::Reader::ret, fields::specs::Answers::forget))]
 fn statement_of(
     tree: &[u8],
     names: u32,
@@ -50,8 +48,8 @@ fn statement_of(
         0 => declaration(tree, names, at, left)?,
         1 => assignment(tree, names, at, left)?,
         2 => method_call(tree, names, at, left)?,
-        3 => number(tree, at)?.1,
-        4 | 5 => jump(tree, names, at)?,
+        3 => place(tree, at)?, // a loop
+        4 | 5 => identifier_and_number(tree, names, at)?, // a goto or a label
         6 => return branches(tree, names, counts, at, left),
         7 => return block(tree, names, counts, at, left),
         _ => poison(tree, names, at)?,
@@ -59,21 +57,21 @@ fn statement_of(
     Ok((at, counts))
 }
 
-#[tactic(auto, using(fields::proofs::Parts::laws), unfolding(fields::specs::Answers::forget, penne::specs::Read::read_declaration, penne::specs::Read::place, penne::specs::Reader::ret))]
+#[tactic(auto, using(fields::proofs::Parts::laws), unfolding(fields::specs::Answers::forget, penne::specs::Read::read_declaration, penne::specs::Reader::ret))]
 fn declaration(tree: &[u8], names: u32, at: usize, left: u32) -> Result<usize, Refusal>
     ensures { Ends (read_declaration left) tree.now names at result }
 {
-    let (_, at) = number(tree, at)?;
+    let at = place(tree, at)?;
     let at = option_expression(tree, names, at, left)?;
     let at = carried(tree, names, at, left)?;
     past_identifier(tree, names, at)
 }
 
-#[tactic(auto, using(fields::proofs::Parts::laws), unfolding(fields::specs::Answers::forget, penne::specs::Read::read_assignment, penne::specs::Read::place, penne::specs::Reader::ret))]
+#[tactic(auto, using(fields::proofs::Parts::laws), unfolding(fields::specs::Answers::forget, penne::specs::Read::read_assignment, penne::specs::Reader::ret))]
 fn assignment(tree: &[u8], names: u32, at: usize, left: u32) -> Result<usize, Refusal>
     ensures { Ends (read_assignment left) tree.now names at result }
 {
-    let (_, at) = number(tree, at)?;
+    let at = place(tree, at)?;
     let at = expression(tree, names, at, left)?;
     reference(tree, names, at, left)
 }
@@ -83,33 +81,13 @@ fn method_call(tree: &[u8], names: u32, at: usize, left: u32) -> Result<usize, R
     ensures { Ends (read_method_call left) tree.now names at result }
 {
     let at = past_identifier(tree, names, at)?;
-    let (_, at) = number(tree, at)?;
+    let at = past_number(tree, at)?;
     expressions(tree, names, at, left)
-}
-
-// A goto or a label: both are read alike.
-#[tactic(auto, using(fields::proofs::Parts::laws), unfolding(fields::specs::Answers::forget, penne::specs::Read::read_jump, penne::specs::Read::place, penne::specs::Reader::ret))]
-fn jump(tree: &[u8], names: u32, at: usize) -> Result<usize, Refusal>
-    ensures { (Ends (read_jump goto) tree.now names at result) × (Ends (read_jump label) tree.now names at result) }
-{
-    let at = past_identifier(tree, names, at)?;
-    let (_, at) = number(tree, at)?;
-    Ok(at)
-}
-
-// The condition of an If.
-#[tactic(auto, using(fields::proofs::Parts::laws), unfolding(fields::specs::Answers::forget, crate::specs::Parts::comparison, penne::specs::Reader::ret))]
-fn comparison(tree: &[u8], names: u32, at: usize, left: u32) -> Result<usize, Refusal>
-    ensures { Ends (comparison left) tree.now names at result }
-{
-    let at = operator(tree, at)?;
-    let at = expression(tree, names, at, left)?;
-    expression(tree, names, at, left)
 }
 
 // An If.
 #[cycle(statement)]
-#[tactic(auto, using(fields::proofs::Parts::laws, crate::proofs::Statements::if_is), unfolding(fields::specs::Answers::forget, penne::specs::Read::place, penne::specs::Reader::ret))]
+#[tactic(auto, using(fields::proofs::Parts::laws, crate::proofs::Statements::if_is), unfolding(fields::specs::Answers::forget, penne::specs::Reader::ret))]
 fn branches(
     tree: &[u8],
     names: u32,
@@ -119,14 +97,14 @@ fn branches(
 ) -> Result<(usize, Counts), Refusal>
     ensures { Passes (read_if left (read_stmt left)) tree.now names counts at result }
 {
-    let (_, at) = number(tree, at)?;
-    let at = comparison(tree, names, at, left)?;
+    let at = place(tree, at)?;
+    let at = operation(tree, names, at, left)?;
     let (at, counts) = stmt(tree, names, counts, at, left)?;
     else_branch(tree, names, counts, at, left)
 }
 
 #[cycle(statement)]
-#[tactic(auto, using(fields::proofs::Parts::laws, crate::proofs::Statements::else_is), unfolding(fields::specs::Answers::forget, penne::specs::Read::place, penne::specs::Reader::ret))]
+#[tactic(auto, using(fields::proofs::Parts::laws, crate::proofs::Statements::else_is), unfolding(fields::specs::Answers::forget, penne::specs::Reader::ret))]
 fn else_branch(
     tree: &[u8],
     names: u32,
@@ -140,12 +118,12 @@ fn else_branch(
     if tag == 0 {
         return Ok((at, counts));
     }
-    let (_, at) = number(tree, at)?;
+    let at = place(tree, at)?;
     stmt(tree, names, counts, at, left)
 }
 
 #[cycle(statement)]
-#[tactic(auto, using(fields::proofs::Parts::laws), unfolding(fields::specs::Answers::forget, penne::specs::Read::read_block, penne::specs::Read::place, penne::specs::Reader::ret))]
+#[tactic(auto, using(fields::proofs::Parts::laws), unfolding(fields::specs::Answers::forget, penne::specs::Read::read_block, penne::specs::Reader::ret))]
 fn block(
     tree: &[u8],
     names: u32,
@@ -155,7 +133,7 @@ fn block(
 ) -> Result<(usize, Counts), Refusal>
     ensures { Passes (read_block (read_stmt left)) tree.now names counts at result }
 {
-    let (_, at) = number(tree, at)?;
+    let at = place(tree, at)?;
     statements(tree, names, counts, at, left)
 }
 

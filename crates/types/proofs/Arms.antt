@@ -146,7 +146,7 @@ plain_tried x k a c p e i =
 module _ (a b : Reader (Ty Spot)) {t : List ℕ} {s : Walk} {o l w : List ℕ} (k : ℕ) {v : Wrote} {o' : List ℕ} (put : Put s.wrote (num_b k) o v o') where
   plain_go : (x : Ty Spot) → ((u : Analyzer Spot) → analyze_type x u ≡ (ok x, u)) → ty_b x ≡ num_b k → Tries t (ret x) analyze_type ty_b s o l w (with_wrote s v) none o' l w
   unfolding ret
-  plain_go x p e = tries λ j g i. leads_got x (plain_tried x k g refl p e (wrote i put (record { is = refl })))
+  plain_go x p e = tries λ j g i. leads_got x (plain_tried x k g refl p e (wrote i put))
 
   nameless_go : k ≡ 23 → Tries t (ty_of a b k (get_or ty_kinds k k_plain)) analyze_type ty_b s o l w (with_wrote s v) none o' l w
   unfolding ty_kinds ty_of ty_b analyze_type S.ret
@@ -212,7 +212,7 @@ module _ (k : ℕ) {t : List ℕ} {m : Reader (Ty Spot)} {s : Walk} {o l w : Lis
   pub element_fine : Tries t m analyze_type ty_b (with_wrote s v) o₁ l w r none o₂ l₂ w₂ → Tries t m analyze_type (element_b k) s o l w r none o₂ l₂ w₂
   element_fine y = tries λ j a i. record {
     to = λ x d h.
-        let z = (y.does j (say (num_b k) a) (wrote i put (record { is = refl }))).to x d h in
+        let z = (y.does j (say (num_b k) a) (wrote i put)).to x d h in
         record {
           did = record {
             cur = z.did.cur;
@@ -225,12 +225,12 @@ module _ (k : ℕ) {t : List ℕ} {m : Reader (Ty Spot)} {s : Walk} {o l w : Lis
   pub element_bad : {f : Fault} → Tries t m analyze_type ty_b (with_wrote s v) o₁ l w r (some f) o₂ l₂ w₂ → Tries t m analyze_type (element_b k) s o l w (with_wrote r s.wrote) (some f) o₂ l₂ w₂
   element_bad y = tries λ j a i. record {
     to = λ x d h.
-        let z = (y.does j (say (num_b k) a) (wrote i put (record { is = refl }))).to x d h in
+        let z = (y.does j (say (num_b k) a) (wrote i put)).to x d h in
         record {
           did = record {
             cur = z.did.cur;
             is = is_same (λ g. ap (λ (xs : List ℕ). record { out = xs; st = (analyze_type x a.st).1; rest = a.rest }) (bad_element (element_b k) a.out (z.told (record { few = g.few; fit = g.fit }))))
-                (rewound i (num_b k ++ ok_b ty_b (analyze_type x a.st).0) (omega (arith, type_ids x a.st)) (out_is z.did.is (append_assoc a.out (num_b k) _)) (record { is = refl }));
+                (rewound i (num_b k ++ ok_b ty_b (analyze_type x a.st).0) (omega (arith, type_ids x a.st)) (out_is z.did.is (append_assoc a.out (num_b k) _)));
           };
           told = λ g. z.told (record { few = g.few; fit = g.fit });
         };
@@ -303,7 +303,7 @@ module _ (m b : Reader (Ty Spot)) {t : List ℕ} {s : Walk} {o l w : List ℕ} {
         did = record {
           cur = refl;
           is = is_same (λ z. let y = known z.few z.fit in ap (λ (xs : List ℕ). record { out = xs; st = c.1; rest = a.rest }) (dropped_bytes a.out y.0 y.2) ∙ ap (afterwards ty_b a) (sym (named_ok x n a.st y.1)))
-              (rewound i (ok_b (element_b 15) (analyze_type x a.st).0 ++ ok_b ident_b c.0) (omega (arith, ids.1, whole)) (out_is i₂ (append_assoc a.out _ _)) (record { is = refl }));
+              (rewound i (ok_b (element_b 15) (analyze_type x a.st).0 ++ ok_b ident_b c.0) (omega (arith, ids.1, whole)) (out_is i₂ (append_assoc a.out _ _)));
         };
         told = λ z. let y = known z.few z.fit in subst (λ (u : Maybe Spot (Ty Spot) × Analyzer Spot). Answers (some f) u.0) (sym (named_ok x n a.st y.1)) (answers_by (array_with_named_length y.0) y.2);
       })

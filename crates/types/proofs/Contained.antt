@@ -25,7 +25,7 @@ use Rattle.walk.specs.Walking.{moved_to, with_wrote, here, Lower, Tables, Ground
 use Rattle.walk.specs.Walking as W
 use Rattle.walk.specs.Calls.{Member, FoundIn, Edged, fine, bad}
 use Rattle.walk.proofs.Leading.{leads_call, leads_tried, leads_end, told_fine, told_bad}
-use Rattle.walk.proofs.Writing.{moved, wrote, out_is, instead}
+use Rattle.walk.proofs.Writing.{moved_on, wrote_on, out_is, instead}
 use Rattle.walk.proofs.Choosing.{leads_unmaybe, leads_ok, leads_err}
 use Rattle.walk.proofs.Containing.{tables_changed}
 use Rattle.types.specs.Typing.{analyze_contained, Contains}
@@ -66,15 +66,15 @@ module _ (m : Reader (Ty Spot)) {t : List ℕ} {h : Holder} {s : Walk} {o l w : 
   module _ {v n : ℕ} (e : q ≡ Ok (v, n)) where
     pub contained_poison : {r : Walk} {o' l' w' : List ℕ} → (v ≡ 0 → ⊥) → Walks t read_poison (say_poison 1) (moved_to s n) o l w r o' l' w' → Contains t (maybe m) h s o l w r o' l' w'
     unfolding analyze_contained analyze_maybe_type found_maybe maybe_b S.◌>>=◌ S.ret
-    contained_poison z k = record { does = λ j c i _ a low row is. leads_err g m e z (leads_call _ k j (moved is (record { is = refl })) λ x _ i₁. leads_end (err x) refl i₁ λ _. refl) }
+    contained_poison z k = record { does = λ j c i _ a low row is. leads_err g m e z (leads_call _ k j (moved_on is) λ x _ i₁. leads_end (err x) refl i₁ λ _. refl) }
 
     module _ (z : v ≡ 0) {b : Wrote} {o₁ : List ℕ} {r : Walk} {o₂ l₂ w₂ : List ℕ} (put : Put s.wrote (num_b 0) o b o₁) where
       -- the type is refused: no edge
       pub contained_bad : {f : Fault} {c : Wrote} {o₃ : List ℕ} → Tries t m analyze_type ty_b (moved_to (with_wrote s b) n) o₁ l w r (some f) o₂ l₂ w₂ → Put s.wrote (num_b 1 ++ fault_b f) o₂ c o₃ → Contains t (maybe m) h s o l w (with_wrote r c) o₃ l₂ w₂
       unfolding found_maybe maybe_b S.ret
       contained_bad k err_put = record {
-        does = λ j c i _ a low row is. leads_ok g m e z (leads_tried _ k j (moved (wrote is put (record { is = refl })) (record { is = refl })) λ x _ i₁ told.
-            leads_end (ok x) refl (instead is (num_b 0 ++ ok_b ty_b (analyze_type x a.st).0) (omega (arith, type_ids x a.st)) (out_is i₁ (append_assoc a.out (num_b 0) _)) err_put (record { is = refl }))
+        does = λ j c i _ a low row is. leads_ok g m e z (leads_tried _ k j (wrote_on is put) λ x _ i₁ told.
+            leads_end (ok x) refl (instead is (num_b 0 ++ ok_b ty_b (analyze_type x a.st).0) (omega (arith, type_ids x a.st)) (out_is i₁ (append_assoc a.out (num_b 0) _)) err_put)
             λ y.
             let ids = contained_ids c i x a.st in
             let same = type_ids x a.st in
@@ -127,7 +127,7 @@ module _ (m : Reader (Ty Spot)) {t : List ℕ} {h : Holder} {s : Walk} {o l w : 
 
         pub contained_fine : edge ≡ Ok tt → Contains t (maybe m) h s o l w r o₂ l₂ w₃
         contained_fine q = record {
-          does = λ j c i member a low row is. leads_ok g m e z (leads_tried _ k j (moved (wrote is put (record { is = refl })) (record { is = refl })) λ x read i₁ told.
+          does = λ j c i member a low row is. leads_ok g m e z (leads_tried _ k j (wrote_on is put) λ x read i₁ told.
               leads_end (ok x) refl (edged c i member a is low row x read i₁ told) λ y.
               let v = known c i member a is low row x read i₁ told (good_before c i member a is low row x read i₁ told y) in
               ap (λ (xs : List ℕ). record { out = xs; st = (analyze_contained c i (ok x) a.st).1; rest = a.rest })
@@ -137,9 +137,9 @@ module _ (m : Reader (Ty Spot)) {t : List ℕ} {h : Holder} {s : Walk} {o l w : 
         -- an edge is refused: so is the type
         pub contained_late : {f : Fault} {d : Wrote} {o₃ : List ℕ} → edge ≡ Err f → Put s.wrote (num_b 1 ++ fault_b f) o₂ d o₃ → Contains t (maybe m) h s o l w (with_wrote r d) o₃ l₂ w₃
         contained_late q err_put = record {
-          does = λ j c i member a low row is. leads_ok g m e z (leads_tried _ k j (moved (wrote is put (record { is = refl })) (record { is = refl })) λ x read i₁ told.
+          does = λ j c i member a low row is. leads_ok g m e z (leads_tried _ k j (wrote_on is put) λ x read i₁ told.
               leads_end (ok x) refl
-              (instead is (num_b 0 ++ ok_b ty_b (analyze_type x a.st).0) (omega (arith, contained_ids c i x a.st)) (out_is (edged c i member a is low row x read i₁ told) (append_assoc a.out (num_b 0) _)) err_put (record { is = refl })) λ y.
+              (instead is (num_b 0 ++ ok_b ty_b (analyze_type x a.st).0) (omega (arith, contained_ids c i x a.st)) (out_is (edged c i member a is low row x read i₁ told) (append_assoc a.out (num_b 0) _)) err_put) λ y.
               let v = known c i member a is low row x read i₁ told (good_before c i member a is low row x read i₁ told y) in
               ap (λ (xs : List ℕ). record { out = a.out ++ xs; st = (analyze_contained c i (ok x) a.st).1; rest = a.rest }) (bad_bytes (edge_bad v.5 q)));
         }

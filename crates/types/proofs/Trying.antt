@@ -20,7 +20,7 @@ use Rattle.walk.specs.declared.state.Walk.{Walk}
 use Rattle.walk.specs.declared.fault.Fault.{Fault}
 use Rattle.walk.specs.Walking.{moved_to, with_wrote, here, Ground, Good, Is, onward, silently, say, Did, Leads, Walks, ok_b, Answers, fine, bad, Tried, Tries, Uses}
 use Rattle.walk.proofs.Leading.{same_value, same_cur, tries, leads_bind, leads_got, leads_refused, leads_call, leads_tried, is_same}
-use Rattle.walk.proofs.Writing.{moved, wrote}
+use Rattle.walk.proofs.Writing.{moved_on, wrote, wrote_on}
 use Rattle.walk.proofs.Using.{stepped, made_used, made_refused}
 
 -- THE PASS
@@ -137,12 +137,12 @@ module _ {t : List ℕ} {P : Ident Spot → Cur → Type 0} {names at : ℕ} {k 
 
 -- it is passed over
 pub passed : {s : Walk} {n : ℕ} {o l w : List ℕ} {a : Ground} → Is s o l w a → Did (cursor n s.script.names (counts_of s.counts)) a (moved_to s n) o l w
-passed i = record { cur = refl; is = moved i (record { is = refl }) }
+passed i = record { cur = refl; is = moved_on i }
 
 -- a number that is copied
 pub copied : {m : Reader ℕ} {t : List ℕ} {s : Walk} {o o' l w : List ℕ} {a : Ground} {q : Result (ℕ × ℕ) Refusal} {v n : ℕ} {b : Wrote} → Gives m t s.at q → q ≡ Ok (v, n) → Is s o l w a → Put s.wrote (num_b v) o b o'
     → Leads m t (here s) (λ x d. Did d (say (num_b x) a) (moved_to (with_wrote s b) n) o' l w)
-copied g e i put = leads_given g e (record { cur = refl; is = moved (wrote i put (record { is = refl })) (record { is = refl }) })
+copied g e i put = leads_given g e (record { cur = refl; is = wrote_on i put })
 
 -- A NAME THAT IS USED
 
@@ -155,13 +155,13 @@ module _ {p : Ident Spot → Pass Spot (Maybe Spot (Ident Spot))} (e : Ident Spo
     unfolding ok_b
     name_used {j} v bytes put = tries λ _ a i₀.
         let x = ident_of s.at i in
-        let k = v.does s.at o l a (moved i₀ (record { is = refl })) in
+        let k = v.does s.at o l a (moved_on i₀) in
         leads_name g h (record {
           did = record {
             cur = refl;
             is = is_same (λ z.
                 let f = made_used (k.made (record { few = z.few; fit = z.fit })) refl in
-                ap (λ (xs : List ℕ). record { out = a.out ++ xs; st = (p x a.st).1; rest = a.rest }) (bytes ∙ ap (ok_b e) (sym f))) (wrote k.is put (record { is = refl }));
+                ap (λ (xs : List ℕ). record { out = a.out ++ xs; st = (p x a.st).1; rest = a.rest }) (bytes ∙ ap (ok_b e) (sym f))) (wrote k.is put);
           };
           told = λ z. subst (λ (d : Maybe Spot (Ident Spot)). Answers none d) (sym (made_used (k.made z) refl)) fine;
         })
@@ -170,7 +170,7 @@ module _ {p : Ident Spot → Pass Spot (Maybe Spot (Ident Spot))} (e : Ident Spo
     unfolding ok_b
     name_refused {f} v = tries λ _ a i₀.
         let x = ident_of s.at i in
-        let k = v.does s.at o l a (moved i₀ (record { is = refl })) in
+        let k = v.does s.at o l a (moved_on i₀) in
         leads_name g h (record {
           did = record {
             cur = refl;

@@ -39,7 +39,7 @@ pub fn value_type(
     type_of(tree, answer, work, st, left - 1, k)
 }
 
-// What follows a type's kind.
+// What follows a type's kind. Kinds are the form's numbers, each beside its function: an enum would be the same table once more.
 #[cycle(types)]
 fn type_of(
     tree: &[u8],

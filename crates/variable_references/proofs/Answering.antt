@@ -83,7 +83,7 @@ module _ {s : List ℕ} {l : Layout} (t : LaidOut s l) (o k : List ℕ) {w : Lis
           tables = record {
             long = tab.long;
             early = record { first = u.resolution_id; past = omega arith; containers = λ r h. given r (omega arith); locals = λ n. (let h = nth_low n in absurd (omega arith)); untouched = λ x h. ap (fate x) c.prunings ∙ fate_none x };
-            bare = λ h. none_yet;
+            bare = λ r h. none_yet;
             scopes = mirrors_owns t.decls begin (mirrors_begin g.scope (blank_first p tab.above));
             containers = subst (λ (m : ℕ). Holds m (containers_in w₁) u.containment) (sym g.containers) tab.containers;
             functions = subst (λ (m : ℕ). HoldsFunctions m (functions_in w₁) u.function_list) (sym g.functions) tab.functions;

@@ -25,7 +25,7 @@ use Rattle.containers.specs.Table.{kind_of}
 use Rattle.containers.specs.Calls.{of_kind}
 use Rattle.containers.proofs.Lists.{and_true}
 use Rattle.walk.specs.declared.state.Walk.{Walk}
-use Rattle.walk.specs.Walking.{Counted, Ground, Good, Is}
+use Rattle.walk.specs.Walking.{with_counts, Ground, Good, Is}
 use Rattle.walk.proofs.Leading.{walks, leads_refused, leads_at}
 use Rattle.walk.proofs.Writing as W
 use Rattle.walk.proofs.Identifying.{identified_low}
@@ -62,8 +62,8 @@ module _ {k b : K.Counts} {y : Option K.Counts} (g : Counting k b y) {c : K.Coun
       let e₄ : c.statements ≡ k.statements + 0 = ap (λ (u : Counts). u.statements) is in
       record { containers = ap (λ (u : Counts). u.containers) is; functions = ap (λ (u : Counts). u.functions) is; entries = omega arith; statements = omega arith; few = omega arith }
 
-module _ {s : Walk} {o l w : List ℕ} {a : Ground} (i : Is s o l w a) {c : K.Counts} {s₁ : Walk} (co : Counted s c s₁) where
-  begun : (n m : ℕ) (b : Bool) → Grown s.counts n m c → Is s₁ o l w (record { out = a.out; st = a.st; rest = counting n m b a.rest })
+module _ {s : Walk} {o l w : List ℕ} {a : Ground} (i : Is s o l w a) {c : K.Counts} where
+  begun : (n m : ℕ) (b : Bool) → Grown s.counts n m c → Is (with_counts s c) o l w (record { out = a.out; st = a.st; rest = counting n m b a.rest })
   unfolding counting
   begun n m b g = W.counted i (counting n m b a.rest) (omega (arith, g.entries)) refl refl refl (λ y. (and_true a.rest.fit b y).0)
       (λ y k. record {
@@ -73,13 +73,13 @@ module _ {s : Walk} {o l w : List ℕ} {a : Ground} (i : Is s o l w a) {c : K.Co
         containers = omega (arith, g.containers, k.containers);
         functions = omega (arith, g.functions, k.functions);
         main = k.main;
-      }) co
+      })
 
-  begun_container_lem : (x : Ident Spot) → Grown s.counts 1 0 c → Is s₁ o l w (begun_container x a)
+  begun_container_lem : (x : Ident Spot) → Grown s.counts 1 0 c → Is (with_counts s c) o l w (begun_container x a)
   unfolding begun_container
   begun_container_lem x g = begun 1 0 (clear a.st && fit_container a.st.containment.containers a.rest.containers x) g
 
-  begun_function_lem : (x : Ident Spot) → Grown s.counts 0 1 c → Is s₁ o l w (begun_function x a)
+  begun_function_lem : (x : Ident Spot) → Grown s.counts 0 1 c → Is (with_counts s c) o l w (begun_function x a)
   unfolding begun_function
   begun_function_lem x g = begun 0 1 (clear a.st && fit_function a.st.function_list a.rest.functions x) g
 
@@ -105,12 +105,12 @@ module _ {s : Walk} {o l w : List ℕ} {a : Ground} (i : Is s o l w a) (h : Star
 -- AT ITS PARTS
 
 -- the walk's place behind the head h, with the declaration counted
-parts_at : (h : Start) (s : Walk) (kind : ℕ) {b : K.Counts} {y : Option K.Counts} {c : K.Counts} {s₁ : Walk} → Counting s.counts b y → counts_of b ≡ decl_counts (get_or decl_kinds kind k_bad_decl) → y ≡ Some c → Counted s c s₁
-    → cursor h.parts s₁.script.names (counts_of s₁.counts) ≡ cursor h.parts s.script.names (after s kind)
-parts_at h s kind {b} g is e co = ap (λ (u : Walk). cursor h.parts u.script.names (counts_of u.counts)) co.is ∙ ap (cursor h.parts s.script.names) ((fitted (subst (λ (u : Option K.Counts). Counting s.counts b u) e g)).1 ∙ ap (plus (counts_of s.counts)) is)
+parts_at : (h : Start) (s : Walk) (kind : ℕ) {b : K.Counts} {y : Option K.Counts} {c : K.Counts} → Counting s.counts b y → counts_of b ≡ decl_counts (get_or decl_kinds kind k_bad_decl) → y ≡ Some c
+    → cursor h.parts s.script.names (counts_of c) ≡ cursor h.parts s.script.names (after s kind)
+parts_at h s kind {b} g is e = ap (cursor h.parts s.script.names) ((fitted (subst (λ (u : Option K.Counts). Counting s.counts b u) e g)).1 ∙ ap (plus (counts_of s.counts)) is)
 
-low_name : {t : List ℕ} {s : Walk} {kind : ℕ} {h : Start} {c : K.Counts} {s₁ : Walk} → Counted s c s₁ → Heading t s kind h → h.identifier.name < s₁.script.names
-low_name {h = h} co hd = subst (λ (u : Walk). h.identifier.name < u.script.names) (sym co.is) (identified_low hd.begins.identifier refl).1
+low_name : {t : List ℕ} {s : Walk} {kind : ℕ} {h : Start} → Heading t s kind h → h.identifier.name < s.script.names
+low_name hd = (identified_low hd.begins.identifier refl).1
 
 module _ {k b : K.Counts} {y : Option K.Counts} (g : Counting k b y) {c : K.Counts} (e : y ≡ Some c) (kind : ℕ) (is : counts_of b ≡ decl_counts (get_or decl_kinds kind k_bad_decl)) where
   a_container_lem : decl_counts (get_or decl_kinds kind k_bad_decl) ≡ a_container → Grown k 1 0 c
@@ -127,47 +127,47 @@ module _ {t : List ℕ} {s : Walk} {kind : ℕ} {h : Start} {b : K.Counts} {y : 
   pub kept_full : y ≡ None → Keeps t kind h s o l w r o' l' w'
   kept_full e = record { does = λ hd bf. walks λ inp a i. let z : Passes read_decl t s.script.names s.counts s.at (Err (record { reason = TooMany; place = s.at })) = decl_many hd.kinds (subst (λ (u : Option K.Counts). Counting s.counts b u) e g) is in leads_refused (forget_refused _ _ _ z.is) }
 
-  module _ {c : K.Counts} (e : y ≡ Some c) {s₁ : Walk} (co : Counted s c s₁) where
-    pub kept_constant : kind ≡ 0 → ((p q : Spot) → s.counts.containers < 128 → renumbered t h.places h.from ≡ place_b p ++ place_b q → Arm (NewContainer false s.counts.containers (own h)) (begun_container (own h)) t (constant_parts h.flags p q (own h)) h.parts s₁ o l w r o' l' w')
+  module _ {c : K.Counts} (e : y ≡ Some c) where
+    pub kept_constant : kind ≡ 0 → ((p q : Spot) → s.counts.containers < 128 → renumbered t h.places h.from ≡ place_b p ++ place_b q → Arm (NewContainer false s.counts.containers (own h)) (begun_container (own h)) t (constant_parts h.flags p q (own h)) h.parts (with_counts s c) o l w r o' l' w')
         → Keeps t kind h s o l w r o' l' w'
     unfolding decl_counts decl_kinds kind_of
     kept_constant z k =
         let n = a_container_lem g e kind is (ap (λ (j : ℕ). decl_counts (get_or decl_kinds j k_bad_decl)) z) in
         record {
           does = λ hd bf. walks λ inp a i. leads_decl hd
-              (λ _ p q d. leads_at (parts_at h s kind g is e co) ((k p q (omega (arith, n.containers, n.few)) d).does inp a (new_container i h false (bf.constant z)) (begun_container_lem i co (own h) n)))
+              (λ _ p q d. leads_at (parts_at h s kind g is e) ((k p q (omega (arith, n.containers, n.few)) d).does inp a (new_container i h false (bf.constant z)) (begun_container_lem i (own h) n)))
               (λ x. absurd (omega arith)) (λ x. absurd (omega arith)) (λ x. absurd (omega arith));
         }
 
-    pub kept_function : kind ≡ 1 → ((p q : Spot) → h.flags < 32 → h.identifier.name < s₁.script.names → renumbered t h.places h.from ≡ place_b p ++ place_b q → Arm (NewFunction s.counts.functions (own h)) (begun_function (own h)) t (function_parts h.flags p q (own h)) h.parts s₁ o l w r o' l' w')
+    pub kept_function : kind ≡ 1 → ((p q : Spot) → h.flags < 32 → h.identifier.name < s.script.names → renumbered t h.places h.from ≡ place_b p ++ place_b q → Arm (NewFunction s.counts.functions (own h)) (begun_function (own h)) t (function_parts h.flags p q (own h)) h.parts (with_counts s c) o l w r o' l' w')
         → Keeps t kind h s o l w r o' l' w'
     unfolding decl_counts decl_kinds
     kept_function z k =
         let n = a_function_lem g e kind is (ap (λ (j : ℕ). decl_counts (get_or decl_kinds j k_bad_decl)) z) in
         record {
           does = λ hd bf. walks λ inp a i. leads_decl hd (λ x. absurd (omega arith))
-              (λ _ p q d. leads_at (parts_at h s kind g is e co) ((k p q (below_low hd.begins.flags) (low_name co hd) d).does inp a (new_function i h (bf.function (λ x. absurd (omega arith)) (λ x. absurd (omega arith)))) (begun_function_lem i co (own h) n)))
+              (λ _ p q d. leads_at (parts_at h s kind g is e) ((k p q (below_low hd.begins.flags) (low_name hd) d).does inp a (new_function i h (bf.function (λ x. absurd (omega arith)) (λ x. absurd (omega arith)))) (begun_function_lem i (own h) n)))
               (λ x. absurd (omega arith)) (λ x. absurd (omega arith));
         }
 
-    pub kept_head : kind ≡ 2 → ((p q : Spot) → renumbered t h.places h.from ≡ place_b p ++ place_b q → Arm (NewFunction s.counts.functions (own h)) (begun_function (own h)) t (head_parts h.flags p q (own h)) h.parts s₁ o l w r o' l' w')
+    pub kept_head : kind ≡ 2 → ((p q : Spot) → renumbered t h.places h.from ≡ place_b p ++ place_b q → Arm (NewFunction s.counts.functions (own h)) (begun_function (own h)) t (head_parts h.flags p q (own h)) h.parts (with_counts s c) o l w r o' l' w')
         → Keeps t kind h s o l w r o' l' w'
     unfolding decl_counts decl_kinds
     kept_head z k =
         let n = a_function_lem g e kind is (ap (λ (j : ℕ). decl_counts (get_or decl_kinds j k_bad_decl)) z) in
         record {
           does = λ hd bf. walks λ inp a i. leads_decl hd (λ x. absurd (omega arith)) (λ x. absurd (omega arith))
-              (λ _ p q d. leads_at (parts_at h s kind g is e co) ((k p q d).does inp a (new_function i h (bf.function (λ x. absurd (omega arith)) (λ x. absurd (omega arith)))) (begun_function_lem i co (own h) n)))
+              (λ _ p q d. leads_at (parts_at h s kind g is e) ((k p q d).does inp a (new_function i h (bf.function (λ x. absurd (omega arith)) (λ x. absurd (omega arith)))) (begun_function_lem i (own h) n)))
               (λ x. absurd (omega arith));
         }
 
     -- what has a name and is none of the others is a structure
-    pub kept_structure : (kind ≡ 0 → ⊥) → (kind ≡ 1 → ⊥) → (kind ≡ 2 → ⊥) → ((p : Spot) → renumbered t h.places h.from ≡ place_b p → Arm (NewContainer true s.counts.containers (own h)) (begun_container (own h)) t (structure_parts h.flags p (own h)) h.parts s₁ o l w r o' l' w')
+    pub kept_structure : (kind ≡ 0 → ⊥) → (kind ≡ 1 → ⊥) → (kind ≡ 2 → ⊥) → ((p : Spot) → renumbered t h.places h.from ≡ place_b p → Arm (NewContainer true s.counts.containers (own h)) (begun_container (own h)) t (structure_parts h.flags p (own h)) h.parts (with_counts s c) o l w r o' l' w')
         → Keeps t kind h s o l w r o' l' w'
     unfolding decl_counts decl_kinds kind_of
     kept_structure n₀ n₁ n₂ k = record {
       does = λ hd bf. walks λ inp a i. leads_decl hd (λ z. absurd (n₀ z)) (λ z. absurd (n₁ z)) (λ z. absurd (n₂ z))
           (λ z p d.
           let n = a_container_lem g e kind is (ap (λ (j : ℕ). decl_counts (get_or decl_kinds j k_bad_decl)) z) in
-          leads_at (parts_at h s kind g is e co) ((k p d).does inp a (new_container i h true (bf.structure z)) (begun_container_lem i co (own h) n)));
+          leads_at (parts_at h s kind g is e) ((k p d).does inp a (new_container i h true (bf.structure z)) (begun_container_lem i (own h) n)));
     }

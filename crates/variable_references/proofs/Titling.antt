@@ -21,9 +21,9 @@ use Rattle.fields.proofs.Back.{forget_refused}
 use Rattle.label_references.specs.Marked.{marked_decl}
 use Rattle.walk.specs.declared.fault.Fault.{Fault}
 use Rattle.walk.specs.declared.state.Walk.{Walk}
-use Rattle.walk.specs.Walking.{here, Moves, Rest, Ground, say, say_poison, Leads, Walks}
+use Rattle.walk.specs.Walking.{moved_to, here, Rest, Ground, say, say_poison, Leads, Walks}
 use Rattle.walk.proofs.Leading.{walks, leads_refused, leads_bind, leads_call, leads_got, leads_end, leads_counting, is_same, leads_at}
-use Rattle.walk.proofs.Writing.{here_moved, moved}
+use Rattle.walk.proofs.Writing.{moved_on}
 use Rattle.stages.specs.declared.heads.Start.{Start}
 use Rattle.stages.specs.declared.heads.Head.{Head}
 use Rattle.stages.specs.declared.heads.Head.TheVariants as H
@@ -86,10 +86,10 @@ module _ {t : List ℕ} (s : Walk) {m₁ : Result (ℕ × ℕ) Refusal} (g : Giv
     leads_title k = leads_counting decl_counts decl_head (decl_of 63) (T.kind_value _ 6 here_gives (counts_of s.counts)) λ _. k
 
     -- behind the kind, with nothing counted
-    leads_behind : {P : Decl Spot → Cur → Type 0} {s₁ : Walk} (j : ℕ) → Moves s n s₁ → kind ≡ j → decl_counts (get_or decl_kinds j k_bad_decl) ≡ nothing → Leads (decl_of 63 (get_or decl_kinds j k_bad_decl)) t (here s₁) P → Leads read_decl t (here s) P
-    leads_behind {P} j mv z q k =
+    leads_behind : {P : Decl Spot → Cur → Type 0} (j : ℕ) → kind ≡ j → decl_counts (get_or decl_kinds j k_bad_decl) ≡ nothing → Leads (decl_of 63 (get_or decl_kinds j k_bad_decl)) t (cursor n s.script.names (counts_of s.counts)) P → Leads read_decl t (here s) P
+    leads_behind {P} j z q k =
         let none : counts_of s.counts ≡ after s kind = sym (ap (λ (u : ℕ). after s u) z ∙ ap (plus (counts_of s.counts)) q ∙ plus-nothing (counts_of s.counts)) in
-        leads_title (subst (λ (u : ℕ). Leads (decl_of 63 (get_or decl_kinds u k_bad_decl)) t (cursor n s.script.names (after s kind)) P) (sym z) (leads_at (here_moved mv ∙ ap (cursor n s.script.names) none) k))
+        leads_title (subst (λ (u : ℕ). Leads (decl_of 63 (get_or decl_kinds u k_bad_decl)) t (cursor n s.script.names (after s kind)) P) (sym z) (leads_at (ap (cursor n s.script.names) none) k))
 
     pub titled_not : {x : Result Head Refusal} {f : Refusal} {o l w : List ℕ} {r : Walk} {o' l' w' : List ℕ} → Heads t s.script.names n kind x → x ≡ Err f → Walks t read_decl decl_walk s o l w r o' l' w'
     titled_not hs q = walks λ inp a i. leads_title (record { to = λ y d z. absurd ((told_unread hs q (below_low here_gives) (after s kind)).to y d z) })
@@ -98,11 +98,11 @@ module _ {t : List ℕ} (s : Walk) {m₁ : Result (ℕ × ℕ) Refusal} (g : Giv
       pub titled_named : {h : Start} → x ≡ H.Named h → Heading t s kind h
       titled_named q = record { at = n; kinds = here_gives; begins = told_named hs q }
 
-      module _ {s₁ : Walk} (mv : Moves s n s₁) {o l w : List ℕ} {r : Walk} {o' l' w' : List ℕ} where
-        pub titled_import : x ≡ H.Import → Walks t read_import (λ d a. say (decl_b d) a) s₁ o l w r o' l' w' → Walks t read_decl decl_walk s o l w r o' l' w'
+      module _ {o l w : List ℕ} {r : Walk} {o' l' w' : List ℕ} where
+        pub titled_import : x ≡ H.Import → Walks t read_import (λ d a. say (decl_b d) a) (moved_to s n) o l w r o' l' w' → Walks t read_decl decl_walk s o l w r o' l' w'
         unfolding decl_of decl_kinds decl_counts
-        titled_import q k = walks λ inp a i. leads_behind 4 mv (told_import hs q) refl (record { to = λ y d u. let v = (k.does inp a (moved i mv)).to y d u in record { cur = v.cur; is = is_same (λ _. (imports a).to y d u) v.is } })
+        titled_import q k = walks λ inp a i. leads_behind 4 (told_import hs q) refl (record { to = λ y d u. let v = (k.does inp a (moved_on i)).to y d u in record { cur = v.cur; is = is_same (λ _. (imports a).to y d u) v.is } })
 
-        pub titled_poison : x ≡ H.Poison → Walks t read_poison (say_poison 5) s₁ o l w r o' l' w' → Walks t read_decl decl_walk s o l w r o' l' w'
+        pub titled_poison : x ≡ H.Poison → Walks t read_poison (say_poison 5) (moved_to s n) o l w r o' l' w' → Walks t read_decl decl_walk s o l w r o' l' w'
         unfolding decl_of decl_kinds decl_counts
-        titled_poison q k = walks λ inp a i. leads_behind 5 mv (told_poison hs q) refl (leads_call _ k inp (moved i mv) λ z _ i₁. leads_end (bad_decl z) refl i₁ λ _. poison_walk z a)
+        titled_poison q k = walks λ inp a i. leads_behind 5 (told_poison hs q) refl (leads_call _ k inp (moved_on i) λ z _ i₁. leads_end (bad_decl z) refl i₁ λ _. poison_walk z a)

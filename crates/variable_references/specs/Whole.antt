@@ -1,5 +1,5 @@
 -- What the second pass promises of the whole tree.
-use Rattle.std.specs.Prelude.{ℕ, ◌+◌, ◌≤◌, ◌≡◌, List, [], length, get_or}
+use Rattle.std.specs.Prelude.{ℕ, ◌+◌, ◌≤◌, ◌≡◌, List, [], length, get_or, None}
 use Rattle.penne.specs.Tree.{Spot, Tree}
 use Rattle.penne.specs.Write.{encode}
 use Rattle.penne.specs.Scoper.{answered_tree, skip_list, words}
@@ -34,7 +34,7 @@ pub record Started (t : List ℕ) (l : Layout) (b : Predeclared) (v : Wrote) (r 
   pub counts : r.counts ≡ uncounted
   pub scope : Begins r.tables.scope
   pub next : r.tables.next_id ≡ b.next_id
-  pub constant : r.tables.constant ≡ 0
+  pub constant : r.tables.constant ≡ None
   pub names : r.script.names ≡ l.names
   pub containers : r.script.containers ≡ b.counts.containers
   pub functions : r.script.functions ≡ b.counts.functions

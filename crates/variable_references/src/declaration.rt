@@ -71,6 +71,7 @@ fn named_declaration(
     }
 }
 
+// By the form's number of its kind, as in `types`.
 fn keep_declaration(
     tree: &[u8],
     answer: &mut [u8],

@@ -55,7 +55,7 @@ fn started(tree: &[u8], layout: Layout, begin: Predeclared, wrote: Wrote) -> Wal
         tables: Tables {
             scope: Scope::new(),
             next_id: begin.next_id,
-            constant: 0,
+            constant: None,
         },
         script: Script {
             names: layout.names,

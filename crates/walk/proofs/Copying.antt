@@ -20,9 +20,9 @@ use Rattle.answer.proofs.Runs.{renumbered_end, renumbered_more}
 use Rattle.answer.specs.declared.wrote.Wrote.{Wrote}
 use Rattle.answer.specs.Out.{Put}
 use Rattle.walk.specs.declared.state.Walk.{Walk}
-use Rattle.walk.specs.Walking.{here, Moves, Writes, Ground, Leads, Walks, say}
+use Rattle.walk.specs.Walking.{moved_to, with_wrote, here, Ground, Leads, Walks, say}
 use Rattle.walk.proofs.Leading.{never, same_value, same_cur, bind_got, such_got, walks, leads_bind, leads_got, leads_part, leads_ended}
-use Rattle.walk.proofs.Writing.{here_after, wrote, moved as moved_to}
+use Rattle.walk.proofs.Writing.{wrote_on}
 
 -- A NUMBER IS THE SAME WHATEVER WAS COUNTED
 
@@ -170,11 +170,11 @@ spelled_poison = spelled_by λ s c. leads_bind (below 18) _ λ k d h. poison_of_
 -- THE WALK COPIES A FIELD
 
 -- a kind, and the field behind it as it came in
-pub copied : {A : Type 0} {m : Reader A} {e : A → List ℕ} → Spelled m e → (kind : ℕ) {t : List ℕ} {s : Walk} {o l w : List ℕ} {m₁ : Result ℕ Refusal} {n : ℕ} {x : Wrote} {o' : List ℕ} {s₁ r : Walk} → Ends m t s.script.names s.at m₁ → m₁ ≡ Ok n
-    → Put s.wrote (num_b kind ++ renumbered t s.at n) o x o' → Writes s x s₁ → Moves s₁ n r → Walks t m (λ y a. say (num_b kind ++ e y) a) s o l w r o' l w
-copied p kind {t} {s} {o} {n = n} {x} {o'} {s₁} g q put wr mv = walks λ h a i. leads_part g q λ y z. record {
-  cur = sym (here_after wr mv);
-  is = moved_to (wrote i (subst (λ (ys : List ℕ). Put s.wrote (num_b kind ++ ys) o x o') (spells_is (p.is t (here s) y _ z)) put) wr) mv;
+pub copied : {A : Type 0} {m : Reader A} {e : A → List ℕ} → Spelled m e → (kind : ℕ) {t : List ℕ} {s : Walk} {o l w : List ℕ} {m₁ : Result ℕ Refusal} {n : ℕ} {x : Wrote} {o' : List ℕ} → Ends m t s.script.names s.at m₁ → m₁ ≡ Ok n
+    → Put s.wrote (num_b kind ++ renumbered t s.at n) o x o' → Walks t m (λ y a. say (num_b kind ++ e y) a) s o l w (moved_to (with_wrote s x) n) o' l w
+copied p kind {t} {s} {o} {x = x} {o'} g q put = walks λ h a i. leads_part g q λ y z. record {
+  cur = refl;
+  is = wrote_on i (subst (λ (ys : List ℕ). Put s.wrote (num_b kind ++ ys) o x o') (spells_is (p.is t (here s) y _ z)) put);
 }
 
 -- it can not be read

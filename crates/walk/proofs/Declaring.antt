@@ -21,7 +21,7 @@ use Rattle.scopes.proofs.Analyzing.{mirrors_declare}
 use Rattle.walk.specs.declared.state.Walk.{Walk}
 use Rattle.walk.specs.declared.fault.Fault.{Fault}
 use Rattle.answer.specs.Parts.{resolved_to}
-use Rattle.walk.specs.Walking.{Takes, here, scopes_in, Whose, nobody, somebody, Good, Is, silently, Made, made_as, made_not, duplicate_fault}
+use Rattle.walk.specs.Walking.{with_tables, scopes_in, Whose, nobody, somebody, Good, Made, made_as, made_not, duplicate_fault}
 use Rattle.walk.specs.Calls.{PlaceOfVariable, Pushes, DeclaresBy}
 use Rattle.walk.proofs.Early.{early_declare}
 use Rattle.walk.proofs.Tables.{scopes_changed, marks_kept, lower_scopes}
@@ -30,24 +30,24 @@ use Rattle.walk.proofs.Faults.{duplicate_bytes}
 use Rattle.walk.proofs.Using.{placed_at, placed_nowhere}
 
 -- whose value it is not
-whose_nobody : {cs : List (Container Spot)} {count constant : ℕ} {o : Option (Ident Spot)} → Whose cs count constant o → o ≡ none → constant ≡ 0
+whose_nobody : {cs : List (Container Spot)} {count : ℕ} {constant : Rust.Option ℕ} {o : Option (Ident Spot)} → Whose cs count constant o → o ≡ none → constant ≡ None
 whose_nobody (nobody e) q = e
 whose_nobody (somebody r e l z) q = absurd (let y : ◌≡◌ {A = ℕ} 0 1 = cc in omega arith)
 
 -- the last layer has one more, which took the next id
-pub pushed_is : {s : Walk} {i : Identifier} {from : ℕ} {w : List ℕ} {n : ℕ} {more : Scope} {ys : List ℕ} {after : Walk} → S.Declares s.tables.scope (record { name = i.name; place = i.place; from = from; id = i.id }) (scopes_in w) more ys
-    → n ≡ min (s.tables.next_id + 1) 4294967295 → Takes s (record { scope = more; next_id = n; constant = s.tables.constant }) after → Pushes s i from w after (put_mid 2048 11264 w ys)
+pub pushed_is : {s : Walk} {i : Identifier} {from : ℕ} {w : List ℕ} {n : ℕ} {more : Scope} {ys : List ℕ} → S.Declares s.tables.scope (record { name = i.name; place = i.place; from = from; id = i.id }) (scopes_in w) more ys
+    → n ≡ min (s.tables.next_id + 1) 4294967295 → Pushes s i from w (with_tables s (record { scope = more; next_id = n; constant = s.tables.constant })) (put_mid 2048 11264 w ys)
 unfolding declare_variable next_id with_stack push_variable authoritative resolved
-pushed_is {s} {i} {from} {w} {n} {more} {ys} {after} d e m = record {
-  cur = ap here m.is;
-  is = λ far id low few kind o l a room out j. subst (λ (x : Walk). Is x o l (put_mid 2048 11264 w ys) (silently (declare_variable kind) (ident_of from i) a)) (sym m.is) (record {
+pushed_is {s} {i} {from} {w} {ys = ys} d e = record {
+  cur = refl;
+  is = λ far id low few kind o l a room out j. record {
     when = λ z.
         let y : Good a = record { few = omega (arith, z.few); fit = z.fit } in
         let v = j.when y in
         let t = v.tables in
         let names = t.names in
         let less = room y in
-        let nobody : s.tables.constant ≡ 0 = whose_nobody t.whose (out y) in
+        let nobody : s.tables.constant ≡ None = whose_nobody t.whose (out y) in
         record {
           script = v.script;
           put = v.put;
@@ -55,10 +55,10 @@ pushed_is {s} {i} {from} {w} {n} {more} {ys} {after} d e m = record {
           tables = scopes_changed t (declare_variable kind (ident_of from i) a.st).1 (d.kept.long ∙ scopes_room w t.long)
               (mirrors_declare t.scopes kind (ident_of from i) d (omega arith) (record { name = refl; place = refl; from = refl; id = id ∙ t.next }) (omega arith)) refl refl refl
               (e ∙ ap (λ (x : ℕ). min (x + 1) 4294967295) t.next ∙ min-eq_left z.few) (omega arith) refl
-              (omega (arith, length-append a.st.variable_stack.locals (authoritative a.st (ident_of from i) ∷ []))) (early_declare t.early kind (ident_of from i)) (λ c q. absurd (omega arith));
+              (omega (arith, length-append a.st.variable_stack.locals (authoritative a.st (ident_of from i) ∷ []))) (early_declare t.early kind (ident_of from i)) (λ c q. absurd (let z = sym nobody ∙ q in let y : ◌≡◌ {A = ℕ} 0 1 = cc in omega arith));
           marks = marks_kept (lower_scopes w ys t.long d.kept) v.marks;
         };
-  });
+  };
 }
 
 module _ (s : Walk) (i : Identifier) {from : ℕ} {w : List ℕ} {pl : Rust.Option ℕ} {after : Walk} {w' : List ℕ} (g : PlaceOfVariable s i.name w pl) {made : Identifier} (m : made ≡ resolved_to i s.tables.next_id 1) (d₀ : Pushes s made from w after w') where

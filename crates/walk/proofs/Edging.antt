@@ -2,9 +2,10 @@
 use mathlib.Core.Path.{◌≡◌, refl, sym, ap, subst, ◌∙◌}
 use mathlib.Core.List.{List}
 use mathlib.Core.Option.{Option, none, some}
-use Prim.Native.Nat.{ℕ, ◌-◌, ◌≤◌, ◌<◌}
+use Prim.Native.Nat.{ℕ, ◌<◌}
 use native.Mathlib.Omega.{arith}
-use Rattle.std.specs.Prelude.{Ok, Err, None}
+use Rattle.std.specs.Prelude as Rust
+use Rattle.std.specs.Prelude.{Ok, Err, Some, None}
 use Rattle.penne.specs.Tree.{Spot, Ident, Poison, Maybe, ok, err}
 use Rattle.penne.specs.Find.{resolved}
 use Rattle.penne.specs.Write.{poison_b}
@@ -23,13 +24,13 @@ use Rattle.walk.proofs.Tables.{marks_kept}
 use Rattle.walk.proofs.Using.{Keeps, as_ids, uses_ret}
 
 -- whose value it is
-pub whose_none : {cs : List (Container Spot)} {count constant : ℕ} {o : Option (Ident Spot)} → Whose cs count constant o → constant < 1 → o ≡ none
+pub whose_none : {cs : List (Container Spot)} {count : ℕ} {constant : Rust.Option ℕ} {o : Option (Ident Spot)} → Whose cs count constant o → constant ≡ None → o ≡ none
 whose_none (nobody e) h = refl
-whose_none (somebody r e l q) h = absurd (omega arith)
+whose_none (somebody r e l q) h = absurd (let y = sym h ∙ e in let z : ◌≡◌ {A = ℕ} 0 1 = cc in omega arith)
 
-whose_some : {cs : List (Container Spot)} {count constant : ℕ} {o : Option (Ident Spot)} → Whose cs count constant o → 1 ≤ constant → (c : Ident Spot) × (o ≡ some c) × (constant - 1 < count) × ((at cs (constant - 1)).identifier ≡ c)
-whose_some (nobody e) h = absurd (omega arith)
-whose_some {cs} {count} {constant} (somebody {i = i} r e l q) h = let z : constant - 1 ≡ r = omega arith in (i, refl, omega arith, ap (λ (n : ℕ). (at cs n).identifier) z ∙ q)
+whose_some : {cs : List (Container Spot)} {count n : ℕ} {constant : Rust.Option ℕ} {o : Option (Ident Spot)} → Whose cs count constant o → constant ≡ Some n → (c : Ident Spot) × (o ≡ some c) × (n < count) × ((at cs n).identifier ≡ c)
+whose_some (nobody e) h = absurd (let y = sym e ∙ h in let z : ◌≡◌ {A = ℕ} 0 1 = cc in omega arith)
+whose_some {cs} {n = n} (somebody {i = i} r e l q) h = let y = sym h ∙ e in let z : n ≡ r = cc in (i, refl, omega arith, ap (λ (n : ℕ). (at cs n).identifier) z ∙ q)
 
 -- the edge by what the code says of it
 pub edge_fine : {A : Type 0} {x : A} {r : Edge} {y : Maybe Spot A} → Edged x r y → r ≡ Ok tt → y ≡ ok x
@@ -57,14 +58,14 @@ module _ (s : Walk) (i : Identifier) {row : ℕ} {w : List ℕ} {d : Declared} (
   row_by x a t low {o} e = ap (λ (q : Option (Ident Spot)). use_containee (resolved x (at a.containment.containers row).identifier.id 0) q a) e ∙ ap (λ (n : ℕ). use_containee (resolved x n 0) o a) (sym (its_id a t low))
 
   -- not in a constant's value
-  pub use_row_lem : s.tables.constant < 1 → UsesRow s i row w (Ok (made i d.id)) w
+  pub use_row_lem : s.tables.constant ≡ None → UsesRow s i row w (Ok (made i d.id)) w
   unfolding use_containee ret resolved
   use_row_lem h = record {
     does = λ low. uses_ret (use_row row) (row_keeps row) λ from a t. (ok (resolved (ident_of from i) d.id 0), row_by (ident_of from i) a t low (whose_none t.whose h), made_as);
   }
 
   -- in a constant's value
-  module _ {e : Edge} {w' : List ℕ} (h : 1 ≤ s.tables.constant) (k : EdgeTo s.script (record { row = s.tables.constant - 1; member = None }) row w e w') where
+  module _ {n : ℕ} {e : Edge} {w' : List ℕ} (h : s.tables.constant ≡ Some n) (k : EdgeTo s.script (record { row = n; member = None }) row w e w') where
     edge_row : {u : Used} → ((from : ℕ) (y : Maybe Spot (Ident Spot)) → Edged (resolved (ident_of from i) d.id 0) e y → Made from u y) → UsesRow s i row w u w'
     unfolding use_containee on_containment id_at id_of resolved with_containment
     edge_row {u} say = record {

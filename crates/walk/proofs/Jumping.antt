@@ -67,7 +67,7 @@ module _ {s : Walk} {o l w : List ℕ} {a : Ground} (i : Is s o l w a) where
           script = j.script;
           put = j.put;
           skip = subst (λ (v : _). Said s.listed l (words (offsets v)) a.rest.slots) (sym (goto_skips x p _ a.st.prunings)) j.skip;
-          tables = scopes_changed t (prepare_to_prune_at_goto x p a.st).1 (g.kept.long ∙ scopes_room w t.long) (mirrors_goto t.scopes x p g (omega arith) (omega arith) q t.next) refl refl refl t.next (omega arith) refl t.entries (early_goto t.early x p) (λ d r. r);
+          tables = scopes_changed t (prepare_to_prune_at_goto x p a.st).1 (g.kept.long ∙ scopes_room w t.long) (mirrors_goto t.scopes x p g (omega arith) (omega arith) q t.next) refl refl refl t.next (omega arith) refl t.entries (early_goto t.early x p) (λ r d e. e);
           marks = marks_kept (lower_scopes w ys t.long g.kept) j.marks;
         };
   }
@@ -85,7 +85,7 @@ module _ {s : Walk} {o l w : List ℕ} {a : Ground} (i : Is s o l w a) where
           script = j.script;
           put = j.put;
           skip = subst (λ (v : _). Said s.listed l (words (offsets v)) a.rest.slots) (sym (label_skips x (last_layer a.st) a.st.prunings)) j.skip;
-          tables = scopes_changed t (prune_at_label x a.st).1 (g.kept.long ∙ scopes_room w t.long) (mirrors_label t.scopes g (label_stands w id low h.0 e h.1)) refl refl refl t.next (omega arith) refl t.entries (early_label t.early x) (λ d r. r);
+          tables = scopes_changed t (prune_at_label x a.st).1 (g.kept.long ∙ scopes_room w t.long) (mirrors_label t.scopes g (label_stands w id low h.0 e h.1)) refl refl refl t.next (omega arith) refl t.entries (early_label t.early x) (λ r d e. e);
           marks = marks_kept (lower_scopes w ys t.long g.kept) j.marks;
         };
   }

@@ -1,5 +1,5 @@
 -- None is found where the work words are too few; there the calls promise nothing.
-use mathlib.Core.Path.{◌≡◌, refl, sym, ap, subst, ◌∙◌}
+use mathlib.Core.Path.{◌≡◌, refl, sym, ap, ◌∙◌}
 use mathlib.Core.List.{List, []}
 use Prim.Native.Nat.{ℕ, ◌<◌}
 use native.Mathlib.Omega.{arith}
@@ -13,7 +13,7 @@ use Rattle.scopes.specs.declared.scope.Local.{Local}
 use Rattle.scopes.specs.declared.scope.Scope.{Scope}
 use Rattle.walk.specs.declared.state.Script.{Script}
 use Rattle.walk.specs.declared.state.Walk.{Walk}
-use Rattle.walk.specs.Walking.{Takes, here, Good, Is, Closes, within, Constexpr}
+use Rattle.walk.specs.Walking.{with_tables, Good, Closes, Constexpr}
 use Rattle.walk.specs.declared.edges.Holder.{Holder}
 use Rattle.walk.specs.Calls.{FindsIn, FindsFunctionIn, EdgeTo, Pushes, ListsSkip, PoisonsLocal}
 
@@ -30,11 +30,11 @@ unfolding with_stack
 closed_not h = record { cur = refl; is = λ e i₀ i g le. record { when = λ z. let j = i.when (record { few = z.few; fit = z.fit }) in let long = j.tables.long in absurd (omega arith) } }
 
 -- another in_constexpr_of_constant
-pub constexpr_is : {s r : Walk} {n : ℕ} → Takes s (record { scope = s.tables.scope; next_id = s.tables.next_id; constant = n }) r → Constexpr s n r
+pub constexpr_is : {s : Walk} {n : Rust.Option ℕ} → Constexpr s n (with_tables s (record { scope = s.tables.scope; next_id = s.tables.next_id; constant = n }))
 unfolding in_constexpr_of with_containment
-constexpr_is {s} {r} {n} m = record {
-  cur = ap here m.is;
-  is = λ {o} {l} {w} {a} i c g b. subst (λ (x : Walk). Is x o l w (within c a)) (sym m.is) (record {
+constexpr_is = record {
+  cur = refl;
+  is = λ {o} {l} {w} {a} i c g b. record {
     when = λ z.
         let y : Good a = record { few = z.few; fit = z.fit } in
         let j = i.when y in
@@ -46,7 +46,7 @@ constexpr_is {s} {r} {n} m = record {
           tables = record { long = t.long; scopes = let d = t.scopes in record { holds = d.holds; lower = d.lower }; containers = let b = t.containers in record { counted = b.counted; few = b.few; long = b.long; distinct = b.distinct; rows = b.rows; sets = b.sets; edges = b.edges }; functions = t.functions; layer = t.layer; next = t.next; given = t.given; whose = g y; names = t.names; entries = t.entries; early = let u = t.early in record { first = u.first; past = u.past; containers = u.containers; locals = u.locals; untouched = u.untouched }; bare = b y };
           marks = j.marks;
         };
-  });
+  };
 }
 
 -- found_container_1

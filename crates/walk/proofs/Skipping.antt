@@ -2,7 +2,7 @@
 use mathlib.Core.Path.{◌≡◌, refl, sym, ap, subst, ◌∙◌}
 use mathlib.Core.List.{List, [], ◌∷◌, ◌++◌}
 use mathlib.Core.Option.{Option, none, some}
-use Prim.Native.Nat.{ℕ, zero, suc, ◌+◌, ◌≤◌, ◌<◌}
+use Prim.Native.Nat.{ℕ, ◌+◌, ◌≤◌, ◌<◌}
 use native.Mathlib.Omega.{arith}
 use lib.ListN.{get_or}
 use borrow.Rule.Slice.PartMut.{put_mid}
@@ -36,7 +36,7 @@ use Rattle.penne.specs.Containers.{id_of}
 use Rattle.walk.specs.declared.state.Walk.{Walk}
 use Rattle.walk.specs.declared.fault.Fault.{Fault}
 use Rattle.walk.specs.declared.fault.Fault.TheVariants as F
-use Rattle.walk.specs.Walking.{with_listed, Lists, here, scopes_in, Tables, Good, Stands, silently, fault_b, Made, made_as, made_not, Uses, UsesListed, Used}
+use Rattle.walk.specs.Walking.{with_listed, here, scopes_in, Tables, Good, Stands, silently, fault_b, Made, made_as, made_not, Uses, UsesListed, Used}
 use Rattle.walk.specs.Calls.{FindsIn, FindsLocal, LocalOf, Became, UsesRow, use_row, UsesLocal, ListsSkip, skipped_fault, MayBeSkipped, PoisonsLocal}
 use Rattle.walk.proofs.Early.{early_skip, early_poison}
 use Rattle.walk.proofs.Tables.{part_word, scopes_changed, state_changed, marks_kept, lower_scopes}
@@ -140,16 +140,16 @@ module _ (s : Walk) (i : Identifier) {w : List ℕ} {r : Rust.Option ℕ} (g : F
           let x = ident_of from i in
           let j = its f a t in
           let low = nth_low j.row in
-          let no : s.tables.constant < 1 = outside s.tables.constant t.bare low in (
+          let no : s.tables.constant ≡ None = outside s.tables.constant t.bare low in (
             ok (resolved x j.local.id 0),
             variable_by x j.local a j.named (told_standing j.fated z) ∙ ap (λ (o : Option (Ident Spot)). use_containee (resolved x j.local.id 0) o a) (whose_none t.whose no),
             subst (λ (n : ℕ). Made from (Ok (record { name = i.name; place = i.place; id = d.id; authority = 0 })) (ok (resolved x n 0))) j.id made_as,
           ));
     }
       where
-        outside : (c : ℕ) {n m : ℕ} → (1 ≤ c → n ≡ 0) → m < n → c < 1
-        outside zero b h = omega arith
-        outside (suc c) b h = absurd (let y = b (omega arith) in omega arith)
+        outside : (c : Rust.Option ℕ) {n m : ℕ} → ((r : ℕ) → c ≡ Some r → n ≡ 0) → m < n → c ≡ None
+        outside None b h = refl
+        outside (Some r) b h = absurd (let y = b r refl in omega arith)
 
     -- it was poisoned
     pub use_poisoned : {from : ℕ} {l : List ℕ} {r' : Walk} {l' : List ℕ} → b ≡ K.Poisoned → ListsSkip s from d l r' l' → UsesLocal s i from l w r' (Err F.Poisoned) l' w
@@ -161,18 +161,18 @@ module _ (s : Walk) (i : Identifier) {w : List ℕ} {r : Rust.Option ℕ} (g : F
             let good : Good (silently use_variable x a) → Good a = λ v. let m = variable_keeps.ids x a.st in record { few = omega (arith, v.few); fit = v.fit } in
             let does : (t : Tables s.tables s.script s.counts w a.st) → use_variable x a.st ≡ (err (poison 0 [] []), with_prunings a.st (list_skip x (its f a.st t).local a.st.prunings)) = λ t. let j = its f a.st t in variable_by x j.local a.st j.named (told_poisoned j.fated z) in
             record {
-              cur = ap here (k.is far).is;
+              cur = ap here (k.is far);
               is = record {
                 when = λ v.
                     let c = y.when (good v) in
                     let t = c.tables in
                     let j = its f a.st t in
                     subst (λ (m : Maybe Spot (Ident Spot) × Analyzer Spot). Stands r' o l' w (record { out = a.out; st = m.1; rest = a.rest })) (sym (does t))
-                    (subst (λ (m : Walk). Stands m o l' w (record { out = a.out; st = with_prunings a.st (list_skip x j.local a.st.prunings); rest = a.rest })) (sym (k.is far).is) (record {
+                    (subst (λ (m : Walk). Stands m o l' w (record { out = a.out; st = with_prunings a.st (list_skip x j.local a.st.prunings); rest = a.rest })) (sym (k.is far)) (record {
                       script = c.script;
                       put = c.put;
                       skip = more far x j.local a.st j.from c.skip;
-                      tables = state_changed t (with_prunings a.st (list_skip x j.local a.st.prunings)) (mirrors_skip t.scopes x j.local) refl refl refl t.next (omega arith) refl t.entries (early_skip t.early x j.local) (λ _ n. n);
+                      tables = state_changed t (with_prunings a.st (list_skip x j.local a.st.prunings)) (mirrors_skip t.scopes x j.local) refl refl refl t.next (omega arith) refl t.entries (early_skip t.early x j.local) (λ _ _ n. n);
                       marks = c.marks;
                     }));
               };
@@ -198,7 +198,7 @@ module _ (s : Walk) (i : Identifier) {w : List ℕ} {r : Rust.Option ℕ} (g : F
             let (c, fc, lc, gc) = told_pruned j.fated z in
             (c, variable_by x j.local a.st j.named fc, lc, gc) in
             record {
-              cur = ap here (k.is far).is;
+              cur = ap here (k.is far);
               is = record {
                 when = λ g.
                     let c = y.when (good g) in
@@ -206,12 +206,12 @@ module _ (s : Walk) (i : Identifier) {w : List ℕ} {r : Rust.Option ℕ} (g : F
                     let j = its f a.st t in
                     let ps = p.poisons t.long in
                     subst (λ (n : Maybe Spot (Ident Spot) × Analyzer Spot). Stands r' o l' w' (record { out = a.out; st = n.1; rest = a.rest })) (sym (does t).1)
-                    (subst (λ (n : Walk). Stands n o l' w' (record { out = a.out; st = next j.local; rest = a.rest })) (sym (k.is far).is)
+                    (subst (λ (n : Walk). Stands n o l' w' (record { out = a.out; st = next j.local; rest = a.rest })) (sym (k.is far))
                     (subst (λ (n : List ℕ). Stands (with_listed s k.to) o l' n (record { out = a.out; st = next j.local; rest = a.rest })) (sym (p.is t.long)) (record {
                       script = c.script;
                       put = c.put;
                       skip = more far j.local a.st j.from c.skip;
-                      tables = scopes_changed t (next j.local) (ps.kept.long ∙ scopes_room w t.long) (mirrors_poison t.scopes x ps j.row) refl refl refl t.next (omega arith) refl t.entries (early_poison t.early x j.row) (λ _ n. n);
+                      tables = scopes_changed t (next j.local) (ps.kept.long ∙ scopes_room w t.long) (mirrors_poison t.scopes x ps j.row) refl refl refl t.next (omega arith) refl t.entries (early_poison t.early x j.row) (λ _ _ n. n);
                       marks = marks_kept (lower_scopes w p.part t.long ps.kept) c.marks;
                     })));
               };
@@ -241,8 +241,8 @@ module _ (s : Walk) (i : Identifier) {w : List ℕ} {r : Rust.Option ℕ} (g : F
 
 -- THE STEPS
 
-pub listed_is : {s : Walk} {from : ℕ} {d : Local} {l : List ℕ} {v : Wrote} {r : Walk} {l' : List ℕ} → Put s.listed (from ∷ d.from ∷ []) l v l' → Lists s v r → ListsSkip s from d l r l'
-listed_is {v = v} p m = record { to = v; is = λ h. m; put = λ h. p }
+pub listed_is : {s : Walk} {from : ℕ} {d : Local} {l : List ℕ} {v : Wrote} {l' : List ℕ} → Put s.listed (from ∷ d.from ∷ []) l v l' → ListsSkip s from d l (with_listed s v) l'
+listed_is {v = v} p = record { to = v; is = λ h. refl; put = λ h. p }
 
 pub poisoned_is : {k : ℕ} {w ys : List ℕ} → J.Poisons k (scopes_in w) ys → PoisonsLocal k w (put_mid 2048 11264 w ys)
 poisoned_is {ys = ys} p = record { part = ys; is = λ h. refl; poisons = λ h. p }

@@ -9,6 +9,8 @@ use lib.ListN.{length, get_or, take, drop, length-drop}
 use lib.Dec.{T, eqb, ltb, ltb→lt, nltb→le}
 use lib.Seq.{drop-drop, length-take-le, get_or-take, get_or-drop}
 use borrow.Rule.Slice.PartMut.{put_mid, same_len_mid}
+use Rattle.std.specs.Prelude as Rust
+use Rattle.std.specs.Prelude.{Some}
 use Rattle.penne.specs.Tree.{Spot, Ident}
 use Rattle.penne.specs.Find.{keep}
 use Rattle.penne.specs.Containers.{Container, Containment, identifier_of, structures, constants, joined, join_where, added_ids, add_ids, contained_ids_of, id_of, found_container_1}
@@ -111,7 +113,7 @@ marks_kept {n} {m = m} h k =
 module _ {t : W.Tables} {k : Script} {n : K.Counts} {w : List ℕ} {a : Analyzer Spot} (h : Tables t k n w a) where
   pub scopes_changed : {ys : List ℕ} {t' : W.Tables} (a' : Analyzer Spot) → length ys ≡ 11264 → Mirrors t'.scope ys a' → a'.containment ≡ a.containment → a'.function_list ≡ a.function_list → a'.variable_stack.constants ≡ a.variable_stack.constants
       → t'.next_id ≡ a'.resolution_id → a.resolution_id ≤ a'.resolution_id → t'.constant ≡ t.constant → length a'.variable_stack.locals ≤ n.entries
-      → Early k.containers a' → (1 ≤ t.constant → length a.variable_stack.locals ≡ 0 → length a'.variable_stack.locals ≡ 0) → Tables t' k n (put_mid 2048 11264 w ys) a'
+      → Early k.containers a' → ((r : ℕ) → t.constant ≡ Some r → length a.variable_stack.locals ≡ 0 → length a'.variable_stack.locals ≡ 0) → Tables t' k n (put_mid 2048 11264 w ys) a'
   scopes_changed {ys} {t'} a' e m c f v x g q z y b =
       let long = h.long in
       record {
@@ -122,17 +124,17 @@ module _ {t : W.Tables} {k : Script} {n : K.Counts} {w : List ℕ} {a : Analyzer
         layer = v ∙ h.layer ∙ ap (λ (s : Containment Spot). constants s.containers) (sym c);
         next = x;
         given = λ r l. let u = h.given r l in let i : id_at a'.containment.containers r ≡ id_at a.containment.containers r = ap (λ (s : Containment Spot). id_at s.containers r) c in omega arith;
-        whose = subst (λ (s : Containment Spot). Whose s.containers k.containers t'.constant s.in_constexpr_of_constant) (sym c) (subst (λ (j : ℕ). Whose a.containment.containers k.containers j a.containment.in_constexpr_of_constant) (sym q) h.whose);
+        whose = subst (λ (s : Containment Spot). Whose s.containers k.containers t'.constant s.in_constexpr_of_constant) (sym c) (subst (λ (j : Rust.Option ℕ). Whose a.containment.containers k.containers j a.containment.in_constexpr_of_constant) (sym q) h.whose);
         names = h.names;
         entries = z;
         early = y;
-        bare = λ d. let p : 1 ≤ t.constant = omega arith in b p (h.bare p);
+        bare = λ r d. let p : t.constant ≡ Some r = sym q ∙ d in b r p (h.bare r p);
       }
 
   -- the work words stay
   pub state_changed : {t' : W.Tables} (a' : Analyzer Spot) → Mirrors t'.scope (scopes_in w) a' → a'.containment ≡ a.containment → a'.function_list ≡ a.function_list → a'.variable_stack.constants ≡ a.variable_stack.constants
       → t'.next_id ≡ a'.resolution_id → a.resolution_id ≤ a'.resolution_id → t'.constant ≡ t.constant → length a'.variable_stack.locals ≤ n.entries
-      → Early k.containers a' → (1 ≤ t.constant → length a.variable_stack.locals ≡ 0 → length a'.variable_stack.locals ≡ 0) → Tables t' k n w a'
+      → Early k.containers a' → ((r : ℕ) → t.constant ≡ Some r → length a.variable_stack.locals ≡ 0 → length a'.variable_stack.locals ≡ 0) → Tables t' k n w a'
   state_changed {t'} a' m c f v x g q z y b = record {
     long = h.long;
     scopes = m;
@@ -141,11 +143,11 @@ module _ {t : W.Tables} {k : Script} {n : K.Counts} {w : List ℕ} {a : Analyzer
     layer = v ∙ h.layer ∙ ap (λ (s : Containment Spot). constants s.containers) (sym c);
     next = x;
     given = λ r l. let u = h.given r l in let i : id_at a'.containment.containers r ≡ id_at a.containment.containers r = ap (λ (s : Containment Spot). id_at s.containers r) c in omega arith;
-    whose = subst (λ (s : Containment Spot). Whose s.containers k.containers t'.constant s.in_constexpr_of_constant) (sym c) (subst (λ (j : ℕ). Whose a.containment.containers k.containers j a.containment.in_constexpr_of_constant) (sym q) h.whose);
+    whose = subst (λ (s : Containment Spot). Whose s.containers k.containers t'.constant s.in_constexpr_of_constant) (sym c) (subst (λ (j : Rust.Option ℕ). Whose a.containment.containers k.containers j a.containment.in_constexpr_of_constant) (sym q) h.whose);
     names = h.names;
     entries = z;
     early = y;
-    bare = λ d. let p : 1 ≤ t.constant = omega arith in b p (h.bare p);
+    bare = λ r d. let p : t.constant ≡ Some r = sym q ∙ d in b r p (h.bare r p);
   }
 
 -- CONTAINERS AFTER AN EDGE
@@ -231,7 +233,7 @@ pub found_whose : (c : Ident Spot) (m : Option (Ident Spot)) (x : Ident Spot) (s
 unfolding found_container_1
 found_whose c m x s = refl
 
-whose_kept : {cs cs' : List (Container Spot)} {count constant : ℕ} {o : Option (Ident Spot)} → Kept cs cs' → count ≤ length cs → Whose cs count constant o → Whose cs' count constant o
+whose_kept : {cs cs' : List (Container Spot)} {count : ℕ} {constant : Rust.Option ℕ} {o : Option (Ident Spot)} → Kept cs cs' → count ≤ length cs → Whose cs count constant o → Whose cs' count constant o
 whose_kept k l (nobody e) = nobody e
 whose_kept k l (somebody r e h q) = somebody r e h (k.same r (omega arith) ∙ q)
 

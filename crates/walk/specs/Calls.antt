@@ -30,7 +30,7 @@ use Rattle.walk.specs.declared.state.Walk.{Walk}
 use Rattle.walk.specs.declared.fault.Fault.{Fault}
 use Rattle.walk.specs.declared.fault.Fault.TheVariants.{VariableDeclarationMayBeSkipped}
 use Rattle.walk.specs.declared.edges.Holder.{Holder}
-use Rattle.walk.specs.Walking.{Lists, here, Lower, scopes_in, containers_in, functions_in, Tables, Ground, Good, Is, silently, fault_b, Used, Uses, UsesListed, Declares}
+use Rattle.walk.specs.Walking.{with_listed, here, Lower, scopes_in, containers_in, functions_in, Tables, Ground, Good, Is, silently, fault_b, Used, Uses, UsesListed, Declares}
 
 -- find_in: the search among the constants (kind 0) or the structures (3)
 pub record FindsIn (k : Script) (kind name : ℕ) (w : List ℕ) (r : Rust.Option ℕ) : Type 0 where
@@ -85,7 +85,7 @@ pub record UsesLocal (s : Walk) (i : Identifier) (from : ℕ) (l w : List ℕ) (
 -- list_skip: two words more, where the use stands and where what it finds was declared
 pub record ListsSkip (s : Walk) (from : ℕ) (d : Local) (l : List ℕ) (r : Walk) (l' : List ℕ) : Type 0 where
   pub to : Wrote
-  pub is : from ≤ 65535 → Lists s to r
+  pub is : from ≤ 65535 → r ≡ with_listed s to
   pub put : from ≤ 65535 → Put s.listed (from ∷ d.from ∷ []) l to l'
 
 -- may_be_skipped: name and place of the label stand in the table

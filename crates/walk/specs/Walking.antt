@@ -1,5 +1,6 @@
 -- What the walk of the second pass stands for, and what its functions promise: whatever the decoder reads here, the walk does to it what the pass does, and writes what the encoder gives.
-use Rattle.std.specs.Prelude.{ℕ, ◌+◌, ◌≤◌, ◌<◌, ◌≡◌, List, [], ◌∷◌, ◌++◌, Bool, true, length, get_or, take, drop, eqb, Result, Ok, Err}
+use Rattle.std.specs.Prelude.{ℕ, ◌+◌, ◌≤◌, ◌<◌, ◌≡◌, List, [], ◌∷◌, ◌++◌, Bool, true, length, get_or, take, drop, eqb, Result, Ok, Err, None, Some}
+use Rattle.std.specs.Prelude as Rust
 use Rattle.std.proofs.Math.Option.{Option, none, some}
 use Rattle.penne.specs.Reader.{Cur, got, Reader}
 use Rattle.penne.specs.Tree.{Spot, Ident, Poison, Maybe, ok, err}
@@ -45,22 +46,6 @@ with_counts s k = record { at = s.at; wrote = s.wrote; listed = s.listed; counts
 abbrev pub with_tables : Walk → W.Tables → Walk
 with_tables s t = record { at = s.at; wrote = s.wrote; listed = s.listed; counts = s.counts; tables = t; script = s.script }
 
--- what such a change leaves
-pub record Moves (s : Walk) (n : ℕ) (r : Walk) : Type 0 where
-  pub is : r ≡ moved_to s n
-
-pub record Writes (s : Walk) (v : Wrote) (r : Walk) : Type 0 where
-  pub is : r ≡ with_wrote s v
-
-pub record Lists (s : Walk) (v : Wrote) (r : Walk) : Type 0 where
-  pub is : r ≡ with_listed s v
-
-pub record Counted (s : Walk) (k : C.Counts) (r : Walk) : Type 0 where
-  pub is : r ≡ with_counts s k
-
-pub record Takes (s : Walk) (t : W.Tables) (r : Walk) : Type 0 where
-  pub is : r ≡ with_tables s t
-
 -- where the walk reads
 abbrev pub here : Walk → Cur
 here s = cursor s.at s.script.names (counts_of s.counts)
@@ -77,10 +62,10 @@ containers_in w = take 1668 (drop 13312 w)
 abbrev pub functions_in : List ℕ → List ℕ
 functions_in w = take 768 (drop 14980 w)
 
--- in_constexpr_of_constant by its number: 0 for none, else 1 + the constant's row
-pub data Whose (cs : List (Container Spot)) (count constant : ℕ) : Option (Ident Spot) → Type 0 where
-  nobody : constant ≡ 0 → Whose cs count constant none
-  somebody : {i : Ident Spot} (r : ℕ) → constant ≡ r + 1 → r < count → (at cs r).identifier ≡ i → Whose cs count constant (some i)
+-- in_constexpr_of_constant by the constant's row
+pub data Whose (cs : List (Container Spot)) (count : ℕ) (constant : Rust.Option ℕ) : Option (Ident Spot) → Type 0 where
+  nobody : constant ≡ None → Whose cs count constant none
+  somebody : {i : Ident Spot} (r : ℕ) → constant ≡ Some r → r < count → (at cs r).identifier ≡ i → Whose cs count constant (some i)
 
 -- The containers have the first ids: locals have later ones, and nothing became of the first.
 pub record Early (count : ℕ) (a : Analyzer Spot) : Type 0 where
@@ -103,7 +88,7 @@ pub record Tables (t : W.Tables) (k : Script) (n : C.Counts) (w : List ℕ) (a :
   pub names : k.names ≤ 1024
   pub entries : length a.variable_stack.locals ≤ n.entries
   pub early : Early k.containers a
-  pub bare : 1 ≤ t.constant → length a.variable_stack.locals ≡ 0  -- in a constant's value there are no locals
+  pub bare : (r : ℕ) → t.constant ≡ Some r → length a.variable_stack.locals ≡ 0  -- in a constant's value there are no locals
 
 -- what expressions leave as it is
 pub record Rest : Type 0 where
@@ -296,10 +281,10 @@ abbrev pub within : Option (Ident Spot) → Ground → Ground
 within c a = record { out = a.out; st = in_constexpr_of c a.st; rest = a.rest }
 
 -- what `in_constexpr_of` does
-pub record Constexpr (s : Walk) (constant : ℕ) (r : Walk) : Type 0 where
+pub record Constexpr (s : Walk) (constant : Rust.Option ℕ) (r : Walk) : Type 0 where
   pub cur : here r ≡ here s
   pub is : {o l w : List ℕ} {a : Ground} → Is s o l w a → (c : Option (Ident Spot)) → (Good a → Whose a.st.containment.containers s.script.containers constant c)
-      → (Good a → 1 ≤ constant → length a.st.variable_stack.locals ≡ 0) → Is r o l w (within c a)
+      → (Good a → (r : ℕ) → constant ≡ Some r → length a.st.variable_stack.locals ≡ 0) → Is r o l w (within c a)
 
 -- POISONS OF THE CODE'S
 

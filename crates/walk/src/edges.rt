@@ -35,11 +35,7 @@ pub fn container_at(work: &[u32], row: usize) -> Declared
     ensures { ContainerAt row work.now result }
 {
     if work.len() < WORDS {
-        return Declared {
-            name: 0,
-            place: 0,
-            id: 0,
-        };
+        return Declared::NONE;
     }
     container(&work[CONTAINERS..CONTAINERS_END], row)
 }

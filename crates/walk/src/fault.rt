@@ -68,7 +68,7 @@ pub enum Fault {
     },
 }
 
-// By kind, names and places; those that the kind has no use for are not written.
+// By kind, names and places; those that the kind has no use for are not written. A function: `Wrote` is another crate's type, whose methods stand there.
 pub fn then_fault(answer: &mut [u8], w: Wrote, fault: Fault) -> Wrote
     ensures { Put w (fault_b fault) answer.old result answer.new }
 {

@@ -1,4 +1,4 @@
-// Identifiers and poisons, as they are read and written.
+// Identifiers and poisons, as they are read and written. The writers are functions, as in `fault`: `Wrote` is another crate's type.
 ghost use Rattle.std.specs.Prelude.{ℕ, List, ◌++◌};
 ghost use Rattle.penne.specs.Read.{read_poison};
 ghost use Rattle.penne.specs.Write.{num_b};

@@ -98,12 +98,7 @@ fn local_of(work: &[u32], k: usize) -> Local
     ensures { LocalOf k work.now result }
 {
     if work.len() < WORDS {
-        return Local {
-            name: 0,
-            place: 0,
-            from: 0,
-            id: 0,
-        };
+        return Local::NONE;
     }
     local_at(&work[SCOPES..SCOPES_END], k)
 }
@@ -157,15 +152,13 @@ impl Walk {
         ensures { UsesRow self.now i row work.old result work.new }
     {
         let made = resolved(i, container_at(work, row).id, 0);
-        let constant = self.tables.constant as usize;
-        if constant < 1 {
-            return Ok(made);
+        if let Some(constant) = self.tables.constant {
+            let holder = Holder {
+                row: constant as usize,
+                member: None,
+            };
+            edge_to(work, self.script, holder, row)?;
         }
-        let holder = Holder {
-            row: constant - 1,
-            member: None,
-        };
-        edge_to(work, self.script, holder, row)?;
         Ok(made)
     }
 
@@ -262,11 +255,7 @@ pub fn function_at(work: &[u32], row: usize) -> Declared
     ensures { FunctionAt row work.now result }
 {
     if work.len() < WORDS {
-        return Declared {
-            name: 0,
-            place: 0,
-            id: 0,
-        };
+        return Declared::NONE;
     }
     function(&work[FUNCTIONS..FUNCTIONS_END], row)
 }
@@ -312,6 +301,7 @@ fn may_be_skipped(work: &[u32], i: Identifier, declared: Local, label: usize, go
 
 impl Walk {
     // push_scope: a layer begins.
+    #[tactic(auto, using(crate::proofs::Scoping::opened_is))]
     pub fn push_scope(&mut self)
         ensures { Opens self.old self.new }
     {
@@ -339,7 +329,7 @@ impl Walk {
     }
 
     // Another `in_constexpr_of_constant`.
-    pub fn in_constexpr_of(&mut self, constant: u32)
+    pub fn in_constexpr_of(&mut self, constant: Option<u32>)
         ensures { Constexpr self.old constant self.new }
     {
         self.tables.constant = constant;

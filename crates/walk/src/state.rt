@@ -12,12 +12,12 @@ pub struct Script {
     pub functions: u32,
 }
 
-// The variables in scope, the next id, and `in_constexpr_of_constant`: 1 + the constant's row, 0 for none.
+// The variables in scope, the next id, and `in_constexpr_of_constant`: the constant's row.
 #[derive(Clone, Copy)]
 pub struct Tables {
     pub scope: Scope,
     pub next_id: u32,
-    pub constant: u32,
+    pub constant: Option<u32>,
 }
 
 // Where the walk reads, how far answer and list are written, what is counted so far.

@@ -1,8 +1,7 @@
-use mathlib.Core.Path.{refl}
 use mathlib.Core.Bool.{false}
 use native.Mathlib.Omega.{arith}
 use Rattle.walk.proofs.Leading.{tries}
-use Rattle.walk.proofs.Writing.{moved}
+use Rattle.walk.proofs.Writing.{moved_on}
 use Rattle.types.proofs.Arms.{array_fine, array_bad, named_fine, named_late, named_bad, element_fine, element_bad, type_array, type_named, type_word, type_structure, type_element, type_alone, type_unread, type_deep, type_in}
 use Rattle.types.proofs.+types.Goals as goal
 
@@ -52,4 +51,4 @@ pub value_type-returns-then-left-eq0 : goal.value_type-returns-then-left-eq0
 value_type-returns-then-left-eq0 t c = λ own l. tries λ j a i. type_deep own c.below.ensures _ c.if-left-eq0.true
 
 pub value_type-returns : goal.value_type-returns
-value_type-returns t c = λ own l. tries λ j a i. type_in own c.below.ensures _ c.if-left-eq0.false c.in-Ok.is ((c.type_of.ensures own l).does j a (moved i (record { is = refl })))
+value_type-returns t c = λ own l. tries λ j a i. type_in own c.below.ensures _ c.if-left-eq0.false c.in-Ok.is ((c.type_of.ensures own l).does j a (moved_on i))

@@ -8,9 +8,6 @@ use Rattle.nodes.proofs.node.+node.Given as goal
 abbrev pub decreases-array_literal : goal.decreases-array_literal
 decreases-array_literal l = l.left * 5 + 2
 
-abbrev pub decreases-binary : goal.decreases-binary
-decreases-binary l = l.left * 5 + 1
-
 abbrev pub decreases-bit_cast : goal.decreases-bit_cast
 decreases-bit_cast l = l.left * 5 + 1
 
@@ -40,6 +37,9 @@ decreases-items l = l.left * 5 + 2
 
 abbrev pub decreases-length_of_array : goal.decreases-length_of_array
 decreases-length_of_array l = l.left * 5 + 1
+
+abbrev pub decreases-operation : goal.decreases-operation
+decreases-operation l = l.left * 5 + 1
 
 abbrev pub decreases-parenthesized : goal.decreases-parenthesized
 decreases-parenthesized l = l.left * 5 + 1

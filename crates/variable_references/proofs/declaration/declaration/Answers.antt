@@ -1,4 +1,3 @@
-use mathlib.Core.Path.{refl}
 use Rattle.variable_references.proofs.Titling.{titled_unread, titled_named, titled_not, titled_import, titled_poison}
 use Rattle.variable_references.proofs.declaration.declaration.Goals as goal
 
@@ -12,7 +11,7 @@ pub returns-in-Named : goal.returns-in-Named
 returns-in-Named c = c.named_declaration.ensures (titled_named _ c.below.ensures c.in-Ok.is c.in-Ok-read_head.ensures c.in-Named.is)
 
 pub returns-in-Import : goal.returns-in-Import
-returns-in-Import c = titled_import _ c.below.ensures c.in-Ok.is c.in-Ok-read_head.ensures (record { is = refl }) c.in-Import.is (c.import.ensures _ _)
+returns-in-Import c = titled_import _ c.below.ensures c.in-Ok.is c.in-Ok-read_head.ensures c.in-Import.is (c.import.ensures _ _)
 
 pub returns-in-Poison : goal.returns-in-Poison
-returns-in-Poison c = titled_poison _ c.below.ensures c.in-Ok.is c.in-Ok-read_head.ensures (record { is = refl }) c.in-Poison.is (c.copy_poison.ensures _ _)
+returns-in-Poison c = titled_poison _ c.below.ensures c.in-Ok.is c.in-Ok-read_head.ensures c.in-Poison.is (c.copy_poison.ensures _ _)

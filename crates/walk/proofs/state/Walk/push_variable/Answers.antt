@@ -1,4 +1,3 @@
-use mathlib.Core.Path.{refl}
 use Rattle.walk.proofs.Declaring.{pushed_is}
 use Rattle.walk.proofs.Looking.{pushed_not, pushed_far}
 use Rattle.walk.proofs.state.Walk.push_variable.Goals as goal
@@ -10,4 +9,4 @@ pub returns-then-from-gt65535 : goal.returns-then-from-gt65535
 returns-then-from-gt65535 c = pushed_far c.if-from-gt65535.true
 
 pub returns : goal.returns
-returns c = pushed_is c.declare-scope.ensures c.next-self.ensures (record { is = refl })
+returns c = pushed_is c.declare-scope.ensures c.next-self.ensures
