@@ -1,5 +1,5 @@
 -- What the readers' answers say, in the words of the definitions. The code keeps no tree, so that of a part's value only the end is left.
-use Rattle.std.specs.Prelude.{ℕ, ◌≡◌, List, [], ◌∷◌, ◌++◌, map, true, false, Option, Some, None, Result, Ok, Err}
+use Rattle.std.specs.Prelude.{ℕ, ◌≡◌, List, [], ◌∷◌, ◌++◌, map, codes, decimal, true, false, Option, Some, None, Result, Ok, Err}
 use Rattle.penne.specs.Reader.{Counts, Cur, Got, got, refused, Reader, ◌>>=◌, ret, num, bytes, plus, fits, last_group}
 use Rattle.penne.specs.Tree.{Spot, Ident}
 use Rattle.penne.specs.Read.{ident, place, poison_fields}
@@ -24,6 +24,10 @@ row_of LeftOver = 10
 row_of AnswerFull = 11
 row_of ListFull = 12
 row_of NoSuchDeclaration = 13
+
+-- a refusal as the programs print it: its row and its place
+abbrev pub refusal_text : Refusal → List ℕ
+refusal_text e = codes "refused " ++ (decimal (row_of e.reason) ++ (codes " at " ++ decimal e.place))
 
 -- a cursor at a byte, with so many names in the table and so much counted
 abbrev pub cursor : (at names : ℕ) → Counts → Cur

@@ -4,11 +4,11 @@ use mathlib.Core.Bool.{Bool, true, false, ◌&&◌, ◌||◌, not}
 use mathlib.Core.List.{List, [], ◌∷◌, ◌++◌}
 use Prim.Native.Nat.{ℕ, zero, suc, ◌+◌, ◌-◌, ◌*◌, ◌%◌, ◌^◌, ◌≤◌, ◌<◌}
 use native.Mathlib.Omega.{arith}
+use native.Mathlib.Decide.{ℕ_discrete}
 use native.Mathlib.Nat.{le-mul_of_pos_right, mul_comm}
 use lib.Dec.{eqb, ltb, leb, lit≤}
 use lib.ListN.{length, get_or, take, drop}
-use lib.Pointwise.{pointwise}
-use borrow.Author.Tests.{ne_eqb, lt-ltb, ltb-true, ltb-false, leb-true, eqb-true}
+use borrow.Author.Tests.{eq-eqb, ne_eqb, lt-ltb, ltb-true, ltb-false, leb-true, eqb-true}
 use Rattle.penne.specs.Reader.{Counts, Cur, Got, got, refused, Reader, ◌>>=◌, ret, num, groups, last_group, moved, such, raw, nothing}
 use Rattle.penne.specs.Read.{same_bytes, among_names, read_names}
 use Rattle.penne.proofs.Booleans.{and_right, true_false}
@@ -31,13 +31,44 @@ same_eq (x ∷ xs) (y ∷ ys) e = (elim (eqb x y) as (λ t. eqb x y ≡ t → (t
   | false ↦ λ z h. true_false (sym h)
 ]) refl e
 
--- what `==` says of two parts
-pub equal_is : (a b : List ℕ) → pointwise eqb a b ≡ same_bytes a b
+not_same : (a b : List ℕ) → (a ≡ b → ⊥) → false ≡ same_bytes a b
+not_same a b h = (elim (same_bytes a b) as (λ t. same_bytes a b ≡ t → false ≡ t) [
+  | true ↦ λ z. absurd (h (same_eq a b z))
+  | false ↦ λ z. refl
+]) refl
+
+pub same_not_long : (a b : List ℕ) → (length a ≡ length b → ⊥) → false ≡ same_bytes a b
+same_not_long a b h = not_same a b λ e. h (ap length e)
+
+-- so far the two are the same, from the end on
+pub record SameBehind (a b : List ℕ) (i : ℕ) : Type 0 where
+  pub same : (j : ℕ) → i ≤ j → j < length a → get_or a j 0 ≡ get_or b j 0
+  pub long : length a ≡ length b
+  pub within : i ≤ length a
+
+pub same_start : {a b : List ℕ} → length a ≡ length b → SameBehind a b (length a)
+same_start h = record { same = λ j lo hi. absurd (omega arith); long = h; within = omega arith }
+
+same_all : (a b : List ℕ) → length a ≡ length b → ((j : ℕ) → j < length a → get_or a j 0 ≡ get_or b j 0) → true ≡ same_bytes a b
 unfolding same_bytes
-equal_is [] [] = refl
-equal_is [] (y ∷ ys) = refl
-equal_is (x ∷ xs) [] = refl
-equal_is (x ∷ xs) (y ∷ ys) = ap (λ (t : Bool). eqb x y && t) (equal_is xs ys)
+same_all [] [] l h = refl
+same_all [] (y ∷ ys) l h = absurd (omega (arith, l))
+same_all (x ∷ xs) [] l h = absurd (omega (arith, l))
+same_all (x ∷ xs) (y ∷ ys) l h = same_all xs ys (omega (arith, l)) (λ j k. h (suc j) (omega (arith, k))) ∙ sym (rw (eq-eqb x y (h 0 (omega arith))))
+
+module _ {a b : List ℕ} {i : ℕ} (g : SameBehind a b i) (h : 0 < i) where
+  pub same_differ : (get_or a (i - 1) 0 ≡ get_or b (i - 1) 0 → ⊥) → false ≡ same_bytes a b
+  same_differ z = not_same a b λ e. z (ap (λ (l : List ℕ). get_or l (i - 1) 0) e)
+
+  pub same_on : get_or a (i - 1) 0 ≡ get_or b (i - 1) 0 → SameBehind a b (i - 1)
+  same_on z = record { same = λ j lo hi. one_more j (ℕ_discrete j (i - 1)) lo hi; long = g.long; within = omega (arith, g.within) }
+    where
+      one_more : (j : ℕ) → Dec (j ≡ i - 1) → i - 1 ≤ j → j < length a → get_or a j 0 ≡ get_or b j 0
+      one_more j (yes e) lo hi = subst (λ (k : ℕ). get_or a k 0 ≡ get_or b k 0) (sym e) z
+      one_more j (no e) lo hi = g.same j (omega arith) hi
+
+pub same_done : {a b : List ℕ} {i : ℕ} → SameBehind a b i → i ≤ 0 → true ≡ same_bytes a b
+same_done {a} {b} g h = same_all a b g.long (λ j k. g.same j (omega arith) k)
 
 -- AMONG THE NAMES BEFORE
 

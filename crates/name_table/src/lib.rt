@@ -9,12 +9,19 @@ use fields::field::raw;
 use fields::number::number;
 use fields::refusal::{Reason, Refusal};
 
-// Are the two parts the same bytes?
-#[tactic(auto, using(crate::proofs::Names::equal_is))]
+// Are the two parts the same bytes? From the back: names that are not the same most often differ near their ends.
 pub fn same(a: &[u8], b: &[u8]) -> bool
     ensures { result ≡ same_bytes a.now b.now }
 {
-    a == b
+    if a.len() != b.len() {
+        return false;
+    }
+    for i in (0..a.len()).rev() {
+        if a[i] != b[i] {
+            return false;
+        }
+    }
+    true
 }
 
 // So many bytes of the tree, as far as there are any.

@@ -50,7 +50,7 @@ pub prepare_short : {s : Walk} {id place : ℕ} {w : List ℕ} → length w < 16
 unfolding prepare_to_prune_at_goto with_prunings
 prepare_short h = record { is = λ i p e q low high j. short_is j _ (λ z. record { few = z.few; fit = z.fit }) h }
 
-pub prepare_none : {s : Walk} {id place : ℕ} {w : List ℕ} → id ≡ 0 → Prepares s id place w w
+pub prepare_none : {s : Walk} {id place : ℕ} {w w' : List ℕ} → id ≡ 0 → Prepares s id place w w'
 prepare_none h = record { is = λ i p e q low high j. absurd (omega arith) }
 
 pub prepare_is : {s : Walk} {id place : ℕ} {w ys : List ℕ} → J.Prepares (id - 1) place s.tables.next_id (scopes_in w) ys → Prepares s id place w (put_mid 2048 11264 w ys)
