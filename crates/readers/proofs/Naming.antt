@@ -41,7 +41,7 @@ use Rattle.readers.proofs.Asking.{such_go, asks_refused, asks_decoded, long, ele
 
 -- so many others are left from `cur` on, where k is counted
 pub record Passing (s : List ℕ) (names at n rest : ℕ) (k : C.Counts) (cur : ℕ) : Type 0 where
-  pub on : (r : Result ℕ Refusal) → NthDeclaration s names (counts_of k) cur rest r → NthDeclaration s names nothing at n r
+  pub on : (r : ℕ) → NthDeclaration s names (counts_of k) cur rest r → NthDeclaration s names nothing at n r
 
 pub passing_start : {s : List ℕ} {names at n : ℕ} {k : C.Counts} → counts_of k ≡ nothing → Passing s names at n n k at
 passing_start z = record { on = λ r h. rw z at h }
@@ -54,11 +54,11 @@ decls_case zero s c n {ds} {e} {d} h w next = none_some _ (sym (ap (λ (l : List
 decls_case (suc count) s c n h w next = many_case read_decl count s c h λ a c₁ tail h₁ h₂ z. next count a c₁ tail h₁ h₂ (ap (λ (l : List (Decl Spot)). get_elem? l n) (sym z) ∙ w)
 
 module _ {s : List ℕ} {names : ℕ} {k : C.Counts} {cur : ℕ} where
-  here_is : NthDeclaration s names (counts_of k) cur 0 (Ok cur)
+  here_is : NthDeclaration s names (counts_of k) cur 0 cur
   here_is = record { is = λ count ds c d h w. decls_case count s _ 0 h w λ rest a c₁ tail h₁ h₂ y. record { counts = counts_of k; next = c₁; read = h₁ ∙ ap (λ (x : Decl Spot). got x c₁) (some_same y) } }
 
   -- a declaration that was read once is not refused
-  never_go : {n : ℕ} {e : Refusal} → Passes read_decl s names k cur (Err e) → NthDeclaration s names (counts_of k) cur n (Err e)
+  never_go : {n r : ℕ} {e : Refusal} → Passes read_decl s names k cur (Err e) → NthDeclaration s names (counts_of k) cur n r
   unfolding forget
   never_go {n} o = record { is = λ count ds c d h w. decls_case count s _ n h w λ rest a c₁ tail h₁ h₂ y. never' (sym o.is ∙ ap forget h₁) }
 
@@ -67,14 +67,14 @@ module _ {s : List ℕ} {names : ℕ} {k : C.Counts} {cur : ℕ} where
     unfolding forget
     behind h = here (sym o.is ∙ ap forget h)
 
-    one_more : {n : ℕ} {r : Result ℕ Refusal} → NthDeclaration s names (counts_of more) b n r → NthDeclaration s names (counts_of k) cur (suc n) r
+    one_more : {n r : ℕ} → NthDeclaration s names (counts_of more) b n r → NthDeclaration s names (counts_of k) cur (suc n) r
     one_more {n} t = record { is = λ count ds c d h w. decls_case count s _ (suc n) h w λ rest a c₁ tail h₁ h₂ y. t.is rest tail c d (subst (λ (x : Cur). many read_decl rest s x ≡ got tail c) (sym (behind h₁)) h₂) y }
 
   module _ {at n rest : ℕ} (p : Passing s names at n rest k cur) where
-    pub passing_done : rest ≡ 0 → NthDeclaration s names nothing at n (Ok cur)
-    passing_done z = p.on _ (subst (λ (j : ℕ). NthDeclaration s names (counts_of k) cur j (Ok cur)) (sym z) here_is)
+    pub passing_done : rest ≡ 0 → NthDeclaration s names nothing at n cur
+    passing_done z = p.on _ (subst (λ (j : ℕ). NthDeclaration s names (counts_of k) cur j cur) (sym z) here_is)
 
-    pub passing_never : {e : Refusal} → Passes read_decl s names k cur (Err e) → NthDeclaration s names nothing at n (Err e)
+    pub passing_never : {e : Refusal} → Passes read_decl s names k cur (Err e) → NthDeclaration s names nothing at n cur
     passing_never o = p.on _ (never_go o)
 
     pub passing_more : {rest' b : ℕ} {more : C.Counts} → rest ≡ suc rest' → Passes read_decl s names k cur (Ok (b, more)) → Passing s names at n rest' more b
@@ -125,13 +125,13 @@ untitled (suc (suc (suc (suc zero)))) z = yields_bind _ _ λ b. yields_bind _ _ 
 untitled (suc (suc (suc (suc (suc zero))))) z = yields_bind _ _ λ p. yields_ret _ _ (λ _. refl)
 untitled (suc (suc (suc (suc (suc (suc k)))))) z = yields_bind _ _ λ p. yields_ret _ _ (λ _. refl)
 
-title_never : {s : List ℕ} {names at : ℕ} {r : Result (Option ℕ) Refusal} → ((d : Decl Spot) → Stands s names at d → ⊥) → Titles s names at r
+title_never : {s : List ℕ} {names at : ℕ} {r : Option ℕ} → ((d : Decl Spot) → Stands s names at d → ⊥) → Titles s names at r
 title_never h = record { is = λ d g t. absurd (h d g); known = λ d g. absurd (h d g) }
 
 abbrev kinds : ℕ → DeclKind
 kinds n = get_or decl_kinds n k_bad_decl
 
-pub title_unread : {s : List ℕ} {names at : ℕ} {e : Refusal} → Gives (below 6) s at (Err e) → Titles s names at (Err e)
+pub title_unread : {s : List ℕ} {names at : ℕ} {e : Refusal} → Gives (below 6) s at (Err e) → Titles s names at None
 unfolding read_decl decl_head
 title_unread {s} {names} g₁ = title_never λ d g. bind_case (counting decl_counts decl_head) (decl_of 63) s _ g.read λ kd c₁ h₁ h₂.
     never (sym (counting_no decl_counts decl_head s _ (look_is kinds 6 s _ ∙ ap (looked_up kinds) (g₁.is names g.counts))) ∙ h₁)
@@ -143,7 +143,7 @@ module _ {s : List ℕ} {names at v a : ℕ} (g₁ : Gives (below 6) s at (Ok (v
       let z = counting_is decl_counts decl_head s _ (kind_value kinds 6 g₁ g.counts) h₁ in
       next _ _ ((λ j. decl_of 63 (z.0 j) s (z.1 j)) ∙ h₂)
 
-  pub title_other : (v ≡ 3 → ⊥) → Titles s names at (Ok None)
+  pub title_other : (v ≡ 3 → ⊥) → Titles s names at None
   title_other z = record { is = λ d g t. kind_case g λ k c h. (untitled v z).all s _ d c h t; known = λ d g. tt }
 
   module _ (z : v ≡ 3) where
@@ -155,7 +155,7 @@ module _ {s : List ℕ} {names at v a : ℕ} (g₁ : Gives (below 6) s at (Ok (v
         bind_case (below 32) _ s _ (ap (λ (j : ℕ). decl_of 63 (kinds j) s (cursor a names k)) (sym z) ∙ h) λ f c₁ e₁ h₁. bind_case place _ s c₁ h₁ λ p c₂ e₂ h₂. bind_case ident _ s c₂ h₂ λ i c₃ e₃ h₃.
         bind_case (listed (read_param 63 true)) _ s c₃ h₃ λ ms c₄ e₄ h₄. bind_case (maybe (read_ty 63 false)) _ s c₄ h₄ λ t c₅ e₅ h₅. next k f p i ms t c₁ c₂ c₃ e₁ e₂ e₃ (same_value h₅)
 
-    pub title_flags : {e : Refusal} → Gives (below 32) s a (Err e) → Titles s names at (Err e)
+    pub title_flags : {e : Refusal} → Gives (below 32) s a (Err e) → Titles s names at None
     title_flags g₂ = title_never λ d g. structure_case g λ k f p i ms t c₁ c₂ c₃ h₁ h₂ h₃ w. never (sym (g₂.is names k) ∙ h₁)
 
     module _ {v₂ b : ℕ} (g₂ : Gives (below 32) s a (Ok (v₂, b))) where
@@ -164,7 +164,7 @@ module _ {s : List ℕ} {names at v a : ℕ} (g₁ : Gives (below 6) s at (Ok (v
       flags_case g next = structure_case g λ k f p i ms t c₁ c₂ c₃ h₁ h₂ h₃ w.
           place_num s _ (ap (place s) (same_cur (sym (g₂.is names k) ∙ h₁)) ∙ h₂) λ v h. next k f p i ms t c₂ c₃ v h h₃ w
 
-      pub title_place : {e : Refusal} → Gives num s b (Err e) → Titles s names at (Err e)
+      pub title_place : {e : Refusal} → Gives num s b (Err e) → Titles s names at None
       title_place g₃ = title_never λ d g. flags_case g λ k f p i ms t c₂ c₃ v h₂ h₃ w. never (sym (g₃.is names k) ∙ h₂)
 
       module _ {v₃ c : ℕ} (g₃ : Gives num s b (Ok (v₃, c))) where
@@ -173,10 +173,10 @@ module _ {s : List ℕ} {names at v a : ℕ} (g₁ : Gives (below 6) s at (Ok (v
         place_case g next = flags_case g λ k f p i ms t c₂ c₃ v h₂ h₃ w.
             ident_name s _ (ap (ident s) (same_cur (sym (g₃.is names k) ∙ h₂)) ∙ h₃) λ c₄ h. next k f p i ms t c₄ h w
 
-        pub title_name : {e : Refusal} → Reads name s names c (Err e) → Titles s names at (Err e)
+        pub title_name : {e : Refusal} → Reads name s names c (Err e) → Titles s names at None
         title_name g₄ = title_never λ d g. place_case g λ k f p i ms t c₃ h w. never (sym (g₄.is k) ∙ h)
 
-        pub title_is : {n e : ℕ} → Reads name s names c (Ok (n, e)) → Titles s names at (Ok (Some n))
+        pub title_is : {n e : ℕ} → Reads name s names c (Ok (n, e)) → Titles s names at (Some n)
         unfolding structure_name
         title_is {n} {e} g₄ = record {
           is = λ d g t. place_case g λ k f p i ms y c₃ h q. ap (structure_name t) (sym q) ∙ ap (λ (j : ℕ). (name_from t.names j, length (get_or t.names j []))) (sym (same_value (sym (g₄.is k) ∙ h)));
@@ -239,19 +239,19 @@ read_table (suc count) before s c {ns} e =
 abbrev place_of : ℕ → ℕ → List (List ℕ) → Asked (ℕ × ℕ)
 place_of cur n names = told (cur + length (flat_map bytes_b (take n names)) + 1, length (get_or names n []))
 
-pub record Found (s : List ℕ) (cur n : ℕ) (r : Result Part Refusal) : Type 0 where
-  pub is : (c : Cur) (names : List (List ℕ)) → Table s c names → c.at ≡ cur → n < length names → name_asked r ≡ place_of cur n names
+pub record Found (s : List ℕ) (cur n : ℕ) (r : Part) : Type 0 where
+  pub is : (c : Cur) (names : List (List ℕ)) → Table s c names → c.at ≡ cur → n < length names → name_asked (Ok r) ≡ place_of cur n names
 
-found_named : {s : List ℕ} {at n : ℕ} {r : Result Part Refusal} → Found s at n r → NameAt s at n r
+found_named : {s : List ℕ} {at n : ℕ} {r : Part} → Found s at n r → NameAt s at n r
 found_named {s} {at} {n} {r} f = record {
   is = λ count names c e h.
       let t = read_table count [] s _ e in
-      subst (λ (l : List (List ℕ)). name_asked r ≡ place_of at n l) (sym t.is) (f.is _ t.names t.table refl (omega (arith, h, t.many)));
+      subst (λ (l : List (List ℕ)). name_asked (Ok r) ≡ place_of at n l) (sym t.is) (f.is _ t.names t.table refl (omega (arith, h, t.many)));
 }
 
 -- so many names are left from `cur` on
 pub record Seeking (s : List ℕ) (at n rest cur : ℕ) : Type 0 where
-  pub on : (r : Result Part Refusal) → Found s cur rest r → Found s at n r
+  pub on : (r : Part) → Found s cur rest r → Found s at n r
 
 pub seeking_start : {s : List ℕ} {at n : ℕ} → Seeking s at n n at
 seeking_start = record { on = λ r f. f }
@@ -261,7 +261,7 @@ module _ {s : List ℕ} {cur : ℕ} where
   at_cur : {A : Type 0} {r : Result ℕ Refusal} (m : Reader A) → Skips m s cur r → (c : Cur) → c.at ≡ cur → forget (m s c) ≡ end_of c.names c.counts r
   at_cur {r = r} m g c z = ap (λ (j : ℕ). forget (m s (cursor j c.names c.counts))) z ∙ g.is c.names c.counts
 
-  unnamed_go : {n : ℕ} {e : Refusal} (r : Result Part Refusal) → Skips bytes s cur (Err e) → (c : Cur) (names : List (List ℕ)) → Table s c names → c.at ≡ cur → n < length names → name_asked r ≡ place_of cur n names
+  unnamed_go : {n : ℕ} {e : Refusal} (r : Part) → Skips bytes s cur (Err e) → (c : Cur) (names : List (List ℕ)) → Table s c names → c.at ≡ cur → n < length names → name_asked (Ok r) ≡ place_of cur n names
   unfolding forget
   unnamed_go r g c [] none' z h = absurd (not-suc-le-zero h)
   unnamed_go r g c (b ∷ bs) (more' c₁ c₂ small number one text two t) z h = never' (sym (at_cur bytes g c z) ∙ ap forget text)
@@ -277,12 +277,12 @@ module _ {s : List ℕ} {cur : ℕ} where
         let q : b + length (flat_map bytes_b (take n xs)) + 1 ≡ cur + length (bytes_b x ++ flat_map bytes_b (take n xs)) + 1 = omega (arith, z, length-append (bytes_b x) (flat_map bytes_b (take n xs)), length-append (num_b (length x)) x, ap length (number_small (length x) small)) in
         ap (λ (j : ℕ). told (j, length (get_or xs n []))) q
 
-    more_go : {n : ℕ} (r : Result Part Refusal) → Found s b n r → (c : Cur) (names : List (List ℕ)) → Table s c names → c.at ≡ cur → suc n < length names → name_asked r ≡ place_of cur (suc n) names
+    more_go : {n : ℕ} (r : Part) → Found s b n r → (c : Cur) (names : List (List ℕ)) → Table s c names → c.at ≡ cur → suc n < length names → name_asked (Ok r) ≡ place_of cur (suc n) names
     more_go r f c [] none' z h = absurd (not-suc-le-zero h)
     more_go {n} r f c (x ∷ xs) (more' c₁ c₂ small number one text two t) z h =
         f.is c₂ xs t (sym (next_at c z text)) (le_of_suc-le-suc h) ∙ further x xs n small (next_at c z text ∙ two ∙ ap (λ (j : ℕ). j + 1 + length x) z)
 
-  lost_go : {n : ℕ} {e : Refusal} (r : Result Part Refusal) → Gives num s cur (Err e) → (c : Cur) (names : List (List ℕ)) → Table s c names → c.at ≡ cur → n < length names → name_asked r ≡ place_of cur n names
+  lost_go : {n : ℕ} {e : Refusal} (r : Part) → Gives num s cur (Err e) → (c : Cur) (names : List (List ℕ)) → Table s c names → c.at ≡ cur → n < length names → name_asked (Ok r) ≡ place_of cur n names
   lost_go r g c [] none' z h = absurd (not-suc-le-zero h)
   lost_go r g c (b ∷ bs) (more' c₁ c₂ small number one text two t) z h = never (sym (g.is c.names c.counts) ∙ ap (λ (j : ℕ). num s (cursor j c.names c.counts)) (sym z) ∙ number)
 
@@ -297,17 +297,17 @@ module _ {s : List ℕ} {cur : ℕ} where
 
   module _ {at n rest : ℕ} (k : Seeking s at n rest cur) where
     -- names that were read once are not refused
-    pub seeking_never : {e : Refusal} → Skips bytes s cur (Err e) → NameAt s at n (Err e)
-    seeking_never {e} g = found_named (k.on (Err e) (record { is = unnamed_go (Err e) g }))
+    pub seeking_never : {e : Refusal} {r : Part} → Skips bytes s cur (Err e) → NameAt s at n r
+    seeking_never {r = r} g = found_named (k.on r (record { is = unnamed_go r g }))
 
     pub seeking_more : {rest' b : ℕ} → rest ≡ suc rest' → Skips bytes s cur (Ok b) → Seeking s at n rest' b
     seeking_more z g = record { on = λ r f. k.on r (subst (λ (j : ℕ). Found s cur j r) (sym z) (record { is = more_go g r f })) }
 
-    pub seeking_lost : {e : Refusal} → Gives num s cur (Err e) → NameAt s at n (Err e)
-    seeking_lost {e} g = found_named (k.on (Err e) (record { is = lost_go (Err e) g }))
+    pub seeking_lost : {e : Refusal} {r : Part} → Gives num s cur (Err e) → NameAt s at n r
+    seeking_lost {r = r} g = found_named (k.on r (record { is = lost_go r g }))
 
-    pub seeking_done : {v b : ℕ} → rest ≡ 0 → Gives num s cur (Ok (v, b)) → NameAt s at n (Ok (record { start = b; length = v }))
-    seeking_done {v} {b} z g = found_named (k.on _ (subst (λ (j : ℕ). Found s cur j (Ok (record { start = b; length = v }))) (sym z) (record { is = found_go g })))
+    pub seeking_done : {v b : ℕ} → rest ≡ 0 → Gives num s cur (Ok (v, b)) → NameAt s at n (record { start = b; length = v })
+    seeking_done {v} {b} z g = found_named (k.on _ (subst (λ (j : ℕ). Found s cur j (record { start = b; length = v })) (sym z) (record { is = found_go g })))
 
 pub ruleset seekings = (seeking_start, seeking_never, seeking_more, seeking_lost, seeking_done)
 
@@ -334,22 +334,16 @@ module _ {s : List ℕ} (k : ℕ) where
       decl_case : {X : Type 0} → ((a : Decl Spot) → get_elem? d.laid.decls k ≡ some a → X) → X
       decl_case next = elem_case d.laid.decls k (omega (arith, h, long d)) next
 
-      pub name_lost : {e : Refusal} → NthDeclaration s l.names nothing l.first k (Err e) → name_asked (Err e) ≡ get_structure_name s k
-      name_lost o = decl_case λ a w. absurd (o.is l.count d.laid.decls _ a d.laid.read w)
-
-      module _ {at : ℕ} (o : NthDeclaration s l.names nothing l.first k (Ok at)) where
+      module _ {at : ℕ} (o : NthDeclaration s l.names nothing l.first k at) where
         -- what is told of the declaration
         told_case : {X : Type 0} → ((a : Decl Spot) → Stands s l.names at a → get_structure_name s k ≡ told (structure_name whole a) → X) → X
         unfolding get_structure_name ask_decl
         told_case next = decl_case λ a w. next a (o.is l.count d.laid.decls _ a d.laid.read w) (asks_decoded structure_name k d ∙ ap (ask_decl (structure_name whole)) w)
 
-        pub name_untitled : {e : Refusal} → Titles s l.names at (Err e) → name_asked (Err e) ≡ get_structure_name s k
-        name_untitled y = told_case λ a stands w. absurd (y.is a stands whole)
-
-        pub name_other : Titles s l.names at (Ok None) → name_asked (Ok (record { start = 0; length = 0 })) ≡ get_structure_name s k
+        pub name_other : Titles s l.names at None → name_asked (Ok (record { start = 0; length = 0 })) ≡ get_structure_name s k
         name_other y = told_case λ a stands w. sym (w ∙ ap told (y.is a stands whole))
 
-        module _ {n : ℕ} (y : Titles s l.names at (Ok (Some n))) where
+        module _ {n : ℕ} (y : Titles s l.names at (Some n)) where
           pub name_unread : {e : Refusal} → Gives num s 0 (Err e) → name_asked (Err e) ≡ get_structure_name s k
           name_unread g₂ = never (sym (g₂.is 0 nothing) ∙ d.laid.counted)
 
@@ -366,11 +360,11 @@ module _ {s : List ℕ} (k : ℕ) where
                 let spelt : b ≡ length (num_b (length d.laid.table)) = begin ∙ sym (num_reading s _ _ _ d.laid.counted).long ∙ omega (arith, ap (λ (j : ℕ). length (num_b j)) many) in
                 ap (λ (j : ℕ). told (j + length (flat_map bytes_b (take n d.laid.table)) + 1, length (get_or d.laid.table n []))) spelt
 
-            pub name_is : {z : Result Part Refusal} → NameAt s b n z → name_asked z ≡ get_structure_name s k
+            pub name_is : {z : Part} → NameAt s b n z → name_asked (Ok z) ≡ get_structure_name s k
             name_is f = told_case λ a stands w.
                 f.is l.names d.laid.table d.laid.behind (ap (λ (j : ℕ). read_names l.names [] s (cursor j 0 nothing)) begin ∙ d.laid.named) (y.known a stands) ∙ from_is ∙ sym (w ∙ ap told (y.is a stands whole))
 
-pub ruleset names = (name_refused, name_past, name_lost, name_untitled, name_other, name_unread, name_is)
+pub ruleset names = (name_refused, name_past, name_other, name_unread, name_is)
 
 -- THE PART OF THE TREE
 

@@ -1,5 +1,5 @@
 -- get_structure_name, in the words of the definitions.
-use Rattle.std.specs.Prelude.{ℕ, ◌+◌, ◌≤◌, ◌<◌, ◌≡◌, length, get_or, take, Option, Some, None, Result, IfSome, IfOk, IsOkAnd}
+use Rattle.std.specs.Prelude.{ℕ, ◌+◌, ◌≤◌, ◌<◌, ◌≡◌, length, get_or, take, Option, Some, None, Result, Ok, IfSome}
 use mathlib.Core.List.{List, [], flat_map}
 use Rattle.std.proofs.Math.Option.{some}
 use Rattle.std.proofs.Math.ListN.{get_elem?}
@@ -33,8 +33,8 @@ pub record Stands (s : List ℕ) (names at : ℕ) (d : Decl Spot) : Type 0 where
   pub read : read_decl s (cursor at names counts) ≡ got d next
 
 -- whatever declarations are read at `at`, where so much is counted: the one behind n others stands at r
-pub record NthDeclaration (s : List ℕ) (names : ℕ) (k : Counts) (at n : ℕ) (r : Result ℕ Refusal) : Type 0 where
-  pub is : (count : ℕ) (ds : List (Decl Spot)) (c : Cur) (d : Decl Spot) → many read_decl count s (cursor at names k) ≡ got ds c → get_elem? ds n ≡ some d → IsOkAnd r (λ b. Stands s names b d)
+pub record NthDeclaration (s : List ℕ) (names : ℕ) (k : Counts) (at n r : ℕ) : Type 0 where
+  pub is : (count : ℕ) (ds : List (Decl Spot)) (c : Cur) (d : Decl Spot) → many read_decl count s (cursor at names k) ≡ got ds c → get_elem? ds n ≡ some d → Stands s names r d
 
 -- where the name of a structure stands, and its length, by its name number
 abbrev pub titled_by : Tree Spot → Option ℕ → ℕ × ℕ
@@ -42,10 +42,10 @@ titled_by t (Some n) = (name_from t.names n, length (get_or t.names n []))
 titled_by t None = (0, 0)
 
 -- whatever declaration stands at `at`, r is its name number, where it is a structure
-pub record Titles (s : List ℕ) (names at : ℕ) (r : Result (Option ℕ) Refusal) : Type 0 where
-  pub is : (d : Decl Spot) → Stands s names at d → (t : Tree Spot) → IsOkAnd r (λ o. structure_name t d ≡ titled_by t o)
-  pub known : (d : Decl Spot) → Stands s names at d → IfOk r (λ o. IfSome o (λ n. n < names))
+pub record Titles (s : List ℕ) (names at : ℕ) (r : Option ℕ) : Type 0 where
+  pub is : (d : Decl Spot) → Stands s names at d → (t : Tree Spot) → structure_name t d ≡ titled_by t r
+  pub known : (d : Decl Spot) → Stands s names at d → IfSome r (λ n. n < names)
 
 -- whatever table of names is read at `at`, r says where the bytes of its name n stand
-pub record NameAt (s : List ℕ) (at n : ℕ) (r : Result Part Refusal) : Type 0 where
-  pub is : (count : ℕ) (names : List (List ℕ)) (c : Cur) → read_names count [] s (cursor at 0 nothing) ≡ got names c → n < count → name_asked r ≡ told (at + length (flat_map bytes_b (take n names)) + 1, length (get_or names n []))
+pub record NameAt (s : List ℕ) (at n : ℕ) (r : Part) : Type 0 where
+  pub is : (count : ℕ) (names : List (List ℕ)) (c : Cur) → read_names count [] s (cursor at 0 nothing) ≡ got names c → n < count → name_asked (Ok r) ≡ told (at + length (flat_map bytes_b (take n names)) + 1, length (get_or names n []))

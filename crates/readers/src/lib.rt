@@ -87,10 +87,10 @@ pub fn structure_name_at(tree: &[u8], declaration: u32) -> Result<Part, Refusal>
     if layout.count <= declaration {
         return Err(Reason::NoSuchDeclaration.at(0));
     }
-    let at = nth_declaration(tree, layout.names, layout.first, declaration)?;
-    let Some(name) = title(tree, layout.names, at)? else {
+    let at = nth_declaration(tree, layout.names, layout.first, declaration);
+    let Some(name) = title(tree, layout.names, at) else {
         return Ok(Part::NONE);
     };
     let (_, at) = number(tree, 0)?;
-    name_at(tree, at, name)
+    Ok(name_at(tree, at, name))
 }
