@@ -43,7 +43,7 @@ none_some {A} e = let z : ◌≡◌ {A = ℕ} 0 1 = ap number e in absurd (omega
     number none = 0
     number (some a) = 1
 
-without_go : {s : List ℕ} {names k : ℕ} {x : Decl Spot} {d : Cur} {r : Result (Rust.Option (ℕ × C.Counts)) Refusal} {w : List ℕ} → StartOf s names k x d r → r ≡ Ok Rust.None → BodyLaid k x d w (Ok Rust.None) w
+without_go : {s : List ℕ} {names k : ℕ} {x : Decl Spot} {d : Cur} {r : Result (Rust.Option (ℕ × C.Counts)) Refusal} {w : List ℕ} → StartOf s names k x d r → r ≡ Ok Rust.None → BodyLaid k x d w Rust.None w
 without_go (no_start o z) e = no_body o z
 without_go (start_at ts e₁ o z q u) e = cc
 
@@ -60,17 +60,17 @@ laid_go {s} {names} {k} {n} {c = c} (start_at {n = n₁} {c = c₁} ts e₁ o z 
     f ts e₁ o (ap (λ (i : ℕ × C.Counts). i.1.statements) (sym p) ∙ z) u (l.does long q₁)
 
 module _ {q : Got (Decl Spot)} {s : List ℕ} {names k : ℕ} {w : List ℕ} where
-  pub body_refused : {e : Refusal} {r : Result (Rust.Option ℕ) Refusal} {w' : List ℕ} → Starts q s names k (Err e) → LaysBody q k w r w'
+  pub body_refused : {e : Refusal} {r : Rust.Option ℕ} {w' : List ℕ} → Starts q s names k (Err e) → LaysBody q k w r w'
   body_refused g = record { does = λ long h. refused_go (g.does h) refl }
 
-  pub body_without : Starts q s names k (Ok Rust.None) → LaysBody q k w (Ok Rust.None) w
+  pub body_without : Starts q s names k (Ok Rust.None) → LaysBody q k w Rust.None w
   body_without g = record { does = λ long h. without_go (g.does h) refl }
 
   module _ {n : ℕ} {c : C.Counts} (g : Starts q s names k (Ok (Rust.Some (n, c)))) {w' : List ℕ} where
-    pub body_unlaid : {e : Refusal} {r : Result (Rust.Option ℕ) Refusal} {w'' : List ℕ} → LaysList (listed (read_stmt 63) s (cursor n names (counts_of c))) names 63 c.statements w (Err e) w' → LaysBody q k w r w''
+    pub body_unlaid : {e : Refusal} {r : Rust.Option ℕ} {w'' : List ℕ} → LaysList (listed (read_stmt 63) s (cursor n names (counts_of c))) names 63 c.statements w (Err e) w' → LaysBody q k w r w''
     body_unlaid l = record { does = λ long h. laid_go (g.does h) refl l long λ ts e₁ o y u laid. never_ok laid.told }
 
-    pub body_laid : {a : Shaped} → LaysList (listed (read_stmt 63) s (cursor n names (counts_of c))) names 63 c.statements w (Ok a) w' → LaysBody q k w (Ok (Rust.Some a.last)) w'
+    pub body_laid : {a : Shaped} → LaysList (listed (read_stmt 63) s (cursor n names (counts_of c))) names 63 c.statements w (Ok a) w' → LaysBody q k w (Rust.Some a.last) w'
     body_laid {a} l = record {
       does = λ long {x} {d} h. laid_go (g.does h) refl l long λ ts e₁ o y u laid.
           let t : shaped laid.end laid.counts laid.last ≡ a = sym (ok_same laid.told) in
@@ -102,7 +102,7 @@ labels_some (structure f p i ms t) l e = none_some e
 labels_some (import b p) l e = none_some e
 labels_some (bad_decl z) l e = none_some e
 
-decided_none : {k next : ℕ} {x : Decl Spot} {d : Cur} {w w' : List ℕ} → BodyLaid k x d w (Ok Rust.None) w' → Decided k d.counts.statements next x w next w'
+decided_none : {k next : ℕ} {x : Decl Spot} {d : Cur} {w w' : List ℕ} → BodyLaid k x d w Rust.None w' → Decided k d.counts.statements next x w next w'
 unfolding body_outcomes body_labels
 decided_none {k} {next} {x} {d} {w} (no_body o z) = record {
   told = subst (λ (i : ℕ). Along (Told w) k (body_outcomes (body_of x) (fresh next)) i) (sym z) (subst (λ (b : Option (Stm Spot stmts)). Along (Told w) k (body_outcomes b (fresh next)) k) (sym o) stop);
@@ -111,15 +111,8 @@ decided_none {k} {next} {x} {d} {w} (no_body o z) = record {
   beyond = record { long = refl; same = λ i o₁ o₂ o₃ o₄. refl };
 }
 
-pub decides_none : {q : Got (Decl Spot)} {k next : ℕ} {w w' : List ℕ} → LaysBody q k w (Ok Rust.None) w' → Decides q k next w (Ok next) w'
-decides_none {next = next} g = record { does = λ long top z h room. (next, refl, decided_none (g.does long h)) }
-
-unlaid_go : {k : ℕ} {x : Decl Spot} {d : Cur} {w w' : List ℕ} {r : Result (Rust.Option ℕ) Refusal} {e : Refusal} {X : Type 0} → BodyLaid k x d w r w' → r ≡ Err e → X
-unlaid_go (no_body o z) e = cc
-unlaid_go (body ts o rows only) e = cc
-
-pub decides_refused : {q : Got (Decl Spot)} {k next : ℕ} {w w₁ w' : List ℕ} {e : Refusal} {r : Result ℕ Refusal} → LaysBody q k w (Err e) w₁ → Decides q k next w r w'
-decides_refused g = record { does = λ long top z h room. unlaid_go (g.does long h) refl }
+pub decides_none : {q : Got (Decl Spot)} {k next : ℕ} {w w' : List ℕ} → LaysBody q k w Rust.None w' → Decides q k next w next w'
+decides_none g = record { does = λ long top z h room. decided_none (g.does long h) }
 
 held_none : {next : ℕ} {w : List ℕ} → 0 < next → 13312 ≤ length w → Held w (record { count = 0; next = next }) (fresh next)
 unfolding fresh
@@ -136,7 +129,7 @@ beyond_go top o t = record {
   same = λ i o₁ o₂ o₃ o₄. t.same i o₁ o₂ o₃ (λ x y. o₄ (omega arith) (omega arith)) ∙ o.same i o₁ (λ x y. o₄ (omega arith) (omega arith)) (λ x y. o₄ (omega arith) (omega arith)) (λ x y. o₄ (omega arith) (omega arith));
 }
 
-decided_some : {k next last : ℕ} {x : Decl Spot} {d : Cur} {w w₁ w₂ : List ℕ} {b : L.Labels} → k ≤ 2048 → 0 < next → 13312 ≤ length w → next + length (body_labels (body_of x)) ≤ 1025 → BodyLaid k x d w (Ok (Rust.Some last)) w₁ → VisitsList 63 last (record { count = 0; next = next }) w₁ b w₂ → Decided k d.counts.statements next x w b.next w₂
+decided_some : {k next last : ℕ} {x : Decl Spot} {d : Cur} {w w₁ w₂ : List ℕ} {b : L.Labels} → k ≤ 2048 → 0 < next → 13312 ≤ length w → next + length (body_labels (body_of x)) ≤ 1025 → BodyLaid k x d w (Rust.Some last) w₁ → VisitsList 63 last (record { count = 0; next = next }) w₁ b w₂ → Decided k d.counts.statements next x w b.next w₂
 unfolding body_outcomes body_labels
 decided_some {k} {next} {x = x} {d} {w₁ = w₁} {w₂} {b} top z long room (body ts o rows only) v =
     let held : Held w₁ (record { count = 0; next = next }) (fresh next) = held_none z (omega (arith, only.long)) in
@@ -149,8 +142,8 @@ decided_some {k} {next} {x = x} {d} {w₁ = w₁} {w₂} {b} top z long room (bo
       beyond = beyond_go (rows_high rows top) only did.touches;
     }
 
-pub decides_some : {q : Got (Decl Spot)} {k next last : ℕ} {w w₁ w₂ : List ℕ} {b : L.Labels} → LaysBody q k w (Ok (Rust.Some last)) w₁ → VisitsList 63 last (record { count = 0; next = next }) w₁ b w₂ → Decides q k next w (Ok b.next) w₂
-decides_some {b = b} g v = record { does = λ long top z h room. (b.next, refl, decided_some top z long room (g.does long h) v) }
+pub decides_some : {q : Got (Decl Spot)} {k next last : ℕ} {w w₁ w₂ : List ℕ} {b : L.Labels} → LaysBody q k w (Rust.Some last) w₁ → VisitsList 63 last (record { count = 0; next = next }) w₁ b w₂ → Decides q k next w b.next w₂
+decides_some g v = record { does = λ long top z h room. decided_some top z long room (g.does long h) v }
 
 -- THE DECLARATIONS
 
@@ -208,27 +201,15 @@ module _ {s : List ℕ} {names n at₀ : ℕ} {k₀ : C.Counts} {next₀ : ℕ} 
   deciding_done z = g.on w (subst (λ (i : ℕ). DecidesAll (many read_decl i s (cursor at names (counts_of k))) k next w w) (sym z) (none_decided s (cursor at names (counts_of k)) k refl))
 
   module _ (z : rest ≡ 0 → ⊥) where
-    pub deciding_halt : {w₁ w' : List ℕ} {e : Refusal} → Decides (read_decl s (cursor at names (counts_of k))) k.statements next w (Err e) w₁ → DecidesAll (many read_decl n s (cursor at₀ names (counts_of k₀))) k₀ next₀ w₀ w'
-    deciding_halt {w' = w'} one = g.on w' (record { does = λ long y le h₁ h₂ q. (never long y le h₁ h₂).to q })
-      where
-        never : 13312 ≤ length w → 0 < next → next ≤ k.entries + 1 → k.entries ≤ 1024 → k.statements ≤ 2048 → Leads (many read_decl rest s (cursor at names (counts_of k))) (λ xs d. AllDecided k.statements d.counts.statements next xs w w')
-        never long y le h₁ h₂ = many_step read_decl s _ rest z (leads_bind _ _ _ _ λ x d q.
-            let grown : Grown (length (body_labels (body_of x))) (cursor at names (counts_of k)) d = grown_decl s _ q in
-            let few : d.counts.entries ≤ 1024 = grown.entries h₁ in
-            never_ok (one.does long h₂ y q (omega (arith, grown.more))).1)
-
     pub deciding_stop : {w' : List ℕ} {e : Refusal} → Passes read_decl s names k at (Err e) → DecidesAll (many read_decl n s (cursor at₀ names (counts_of k₀))) k₀ next₀ w₀ w'
     deciding_stop {w'} p = g.on w' (record { does = λ long y le h₁ h₂ q. never.to q })
       where
         never : Leads (many read_decl rest s (cursor at names (counts_of k))) (λ xs d. AllDecided k.statements d.counts.statements next xs w w')
         never = many_step read_decl s _ rest z (leads_unpassed _ p)
 
-    pub deciding_more : {next₁ b : ℕ} {more : C.Counts} {w₁ : List ℕ} → Decides (read_decl s (cursor at names (counts_of k))) k.statements next w (Ok next₁) w₁ → Passes read_decl s names k at (Ok (b, more)) → length w₁ ≡ length w → Deciding s names n at₀ k₀ next₀ w₀ (rest - 1) b more next₁ w₁
+    pub deciding_more : {next₁ b : ℕ} {more : C.Counts} {w₁ : List ℕ} → Decides (read_decl s (cursor at names (counts_of k))) k.statements next w next₁ w₁ → Passes read_decl s names k at (Ok (b, more)) → length w₁ ≡ length w → Deciding s names n at₀ k₀ next₀ w₀ (rest - 1) b more next₁ w₁
     deciding_more {next₁} {b} {more} {w₁} one p l = record { long = l ∙ g.long; on = λ w₂ h. g.on w₂ (record { does = λ long y le h₁ h₂ q. (all w₂ h long y le h₁ h₂).to q }) }
       where
-        decided : (x : Decl Spot) (d : Cur) → (after : ℕ) × (◌≡◌ {A = Result ℕ Refusal} (Ok next₁) (Ok after)) × Decided k.statements d.counts.statements next x w after w₁ → Decided k.statements d.counts.statements next x w next₁ w₁
-        decided x d (after, e, o) = subst (λ (i : ℕ). Decided k.statements d.counts.statements next x w i w₁) (sym (ok_same {E = Refusal} e)) o
-
         all : (w₂ : List ℕ) → DecidesAll (many read_decl (rest - 1) s (cursor b names (counts_of more))) more next₁ w₁ w₂ → 13312 ≤ length w → 0 < next → next ≤ k.entries + 1 → k.entries ≤ 1024 → k.statements ≤ 2048
             → Leads (many read_decl rest s (cursor at names (counts_of k))) (λ xs d. AllDecided k.statements d.counts.statements next xs w w₂)
         all w₂ h long y le h₁ h₂ = many_step read_decl s _ rest z (leads_bind _ _ _ _ λ x d q. leads_bind _ _ _ _ λ xs d₂ q₂. leads_ret _ _ _
@@ -238,7 +219,7 @@ module _ {s : List ℕ} {names n at₀ : ℕ} {k₀ : C.Counts} {next₀ : ℕ} 
             let t : more.statements ≡ d.counts.statements = ap (λ (i : Cur). i.counts.statements) c in
             let few : d.counts.entries ≤ 1024 = grown.entries h₁ in
             let top : d.counts.statements ≤ 2048 = grown.statements h₂ in
-            let this = decided x d (one.does long h₂ y q (omega (arith, grown.more))) in
+            let this = one.does long h₂ y q (omega (arith, grown.more)) in
             let n : next₁ ≡ next + length (body_labels (body_of x)) = along_length this.named in
             let others = h.does (omega arith) (omega arith) (omega (arith, grown.more)) (omega arith) (omega arith) (subst (λ (i : Cur). many read_decl (rest - 1) s i ≡ got xs d₂) (sym c) q₂) in
             all_more y (omega (arith, grown.more)) top this (subst (λ (i : ℕ). AllDecided i d₂.counts.statements next₁ xs w₁ w₂) t others)))
@@ -302,6 +283,6 @@ pass_done {s} {l} {w} {w₁} {ys} long g same e back = record {
   kept = λ t i o₁ o₂ o₃. clear_other w₁ ys (omega arith) e i o₃ ∙ (all_decided long g t).beyond.same i o₁ (λ x y. o₂ x (omega arith)) (λ x y. o₂ (omega arith) y) o₃;
 }
 
-pub ruleset function_labels_laws = (decides_refused, decides_none, decides_some)
+pub ruleset function_labels_laws = (decides_none, decides_some)
 
 pub ruleset function_body_laws = (body_refused, body_without, body_unlaid, body_laid)

@@ -25,11 +25,11 @@ pub record Starts (q : Got (Decl Spot)) (s : List ℕ) (names k : ℕ) (r : Resu
   pub does : {x : Decl Spot} {d : Cur} → q ≡ got x d → StartOf s names k x d r
 
 -- the statements of x, the first of number k, stand in the rows
-pub data BodyLaid (k : ℕ) (x : Decl Spot) (d : Cur) (w : List ℕ) : Result (Option ℕ) Refusal → List ℕ → Type 0 where
-  no_body : body_of x ≡ none → d.counts.statements ≡ k → BodyLaid k x d w (Ok None) w
-  body : {last : ℕ} {w' : List ℕ} (ts : List (Stm Spot stmt)) → body_of x ≡ some (to_stms ts) → Rows w' 63 k (list (turned ts []) last) d.counts.statements → Only k d.counts.statements w w' → BodyLaid k x d w (Ok (Some last)) w'
+pub data BodyLaid (k : ℕ) (x : Decl Spot) (d : Cur) (w : List ℕ) : Option ℕ → List ℕ → Type 0 where
+  no_body : body_of x ≡ none → d.counts.statements ≡ k → BodyLaid k x d w None w
+  body : {last : ℕ} {w' : List ℕ} (ts : List (Stm Spot stmt)) → body_of x ≡ some (to_stms ts) → Rows w' 63 k (list (turned ts []) last) d.counts.statements → Only k d.counts.statements w w' → BodyLaid k x d w (Some last) w'
 
-pub record LaysBody (q : Got (Decl Spot)) (k : ℕ) (w : List ℕ) (r : Result (Option ℕ) Refusal) (w' : List ℕ) : Type 0 where
+pub record LaysBody (q : Got (Decl Spot)) (k : ℕ) (w : List ℕ) (r : Option ℕ) (w' : List ℕ) : Type 0 where
   pub does : 13312 ≤ length w → {x : Decl Spot} {d : Cur} → q ≡ got x d → BodyLaid k x d w r w'
 
 -- the pass before a declaration: no label is in scope
@@ -48,8 +48,8 @@ pub record Decided (k k' next : ℕ) (x : Decl Spot) (w : List ℕ) (after : ℕ
   pub next_is : (labels_decl x (fresh next)).1 ≡ fresh after
   pub beyond : Beyond k k' next w w'
 
-pub record Decides (q : Got (Decl Spot)) (k next : ℕ) (w : List ℕ) (r : Result ℕ Refusal) (w' : List ℕ) : Type 0 where
-  pub does : 13312 ≤ length w → k ≤ 2048 → 0 < next → {x : Decl Spot} {d : Cur} → q ≡ got x d → next + length (body_labels (body_of x)) ≤ 1025 → (after : ℕ) × (r ≡ Ok after) × Decided k d.counts.statements next x w after w'
+pub record Decides (q : Got (Decl Spot)) (k next : ℕ) (w : List ℕ) (r : ℕ) (w' : List ℕ) : Type 0 where
+  pub does : 13312 ≤ length w → k ≤ 2048 → 0 < next → {x : Decl Spot} {d : Cur} → q ≡ got x d → next + length (body_labels (body_of x)) ≤ 1025 → Decided k d.counts.statements next x w r w'
 
 -- nothing is counted yet
 abbrev pub uncounted : C.Counts

@@ -39,7 +39,7 @@ fn declarations(tree: &[u8], work: &mut [u32], ends: &[u32], layout: Layout) -> 
     let mut counts = Counts::NONE;
     let mut next_id = 1;
     for row in (0..layout.count).rev() {
-        next_id = function_labels(tree, work, names, at, counts, next_id)?;
+        next_id = function_labels(tree, work, names, at, counts, next_id);
         (at, counts) = past(tree, ends, names, counts, at, row + 1)?;
     }
     Ok(())
@@ -54,15 +54,15 @@ fn function_labels(
     at: usize,
     counts: Counts,
     next_id: u32,
-) -> Result<u32, Refusal>
+) -> u32
     ensures { Decides (read_decl tree.now (cursor at names (counts_of counts))) counts.statements next_id work.old result work.new }
 {
-    let Some(last) = function_body(tree, work, names, at, counts)? else {
-        return Ok(next_id);
+    let Some(last) = function_body(tree, work, names, at, counts) else {
+        return next_id;
     };
     let none = Labels {
         count: 0,
         next: next_id,
     };
-    Ok(visit_list(work, last, none, 63).next)
+    visit_list(work, last, none, 63).next
 }

@@ -28,7 +28,7 @@ pub struct Shaped {
     pub last: u32,
 }
 
-// The statements of a declaration's body, if it has any: 1 + the number of the last one; `counts` is counted before the declaration.
+// The statements of a declaration's body: 1 + the number of the last one, and nothing where there is no body or something can't be read; `counts` is counted before the declaration.
 #[tactic(auto, using(crate::proofs::Deciding::function_body_laws))]
 pub fn function_body(
     tree: &[u8],
@@ -36,14 +36,16 @@ pub fn function_body(
     names: u32,
     at: usize,
     counts: Counts,
-) -> Result<Option<u32>, Refusal>
+) -> Option<u32>
     ensures { LaysBody (read_decl tree.now (cursor at names (counts_of counts))) counts.statements work.old result work.new }
 {
-    let Some((first, inside)) = body_start(tree, names, at, counts)? else {
-        return Ok(None);
+    let Ok(Some((first, inside))) = body_start(tree, names, at, counts) else {
+        return None;
     };
-    let list = lay_list(tree, work, names, first, inside, 63)?;
-    Ok(Some(list.last))
+    let Ok(list) = lay_list(tree, work, names, first, inside, 63) else {
+        return None;
+    };
+    Some(list.last)
 }
 
 // Where the statements of a function begin whose body is no poison, and what is counted by then.
