@@ -143,24 +143,29 @@ plain_tried x k a c p e i =
       told = λ _. subst (λ (v : Maybe Spot (Ty Spot) × Analyzer Spot). Answers none v.0) q fine;
     }
 
-module _ (a b : Reader (Ty Spot)) {t : List ℕ} {s : Walk} {o l w : List ℕ} (k : ℕ) {v : Wrote} {o' : List ℕ} (put : Put s.wrote (num_b k) o v o') where
-  plain_go : (x : Ty Spot) → ((u : Analyzer Spot) → analyze_type x u ≡ (ok x, u)) → ty_b x ≡ num_b k → Tries t (ret x) analyze_type ty_b s o l w (with_wrote s v) none o' l w
+module _ (a b : Reader (Ty Spot)) {t : List ℕ} {s : Walk} {o l w : List ℕ} {r : Walk} {o' l' w' : List ℕ} (k : ℕ) (v : Walks t (ret k) say_number s o l w r o' l' w') where
+  plain_go : (x : Ty Spot) → ((u : Analyzer Spot) → analyze_type x u ≡ (ok x, u)) → ty_b x ≡ num_b k → Tries t (ret x) analyze_type ty_b s o l w r none o' l' w'
   unfolding ret
-  plain_go x p e = tries λ j g i. leads_got x (plain_tried x k g refl p e (wrote i put))
+  plain_go x p e = tries λ j g i. let z = (v.does j g i).to k (here s) refl in leads_got x (plain_tried x k g z.cur p e z.is)
 
-  nameless_go : k ≡ 23 → Tries t (ty_of a b k (get_or ty_kinds k k_plain)) analyze_type ty_b s o l w (with_wrote s v) none o' l w
+  nameless_go : k ≡ 23 → Tries t (ty_of a b k (get_or ty_kinds k k_plain)) analyze_type ty_b s o l w r none o' l' w'
   unfolding ty_kinds ty_of ty_b analyze_type S.ret
   nameless_go e = as_kind a b k k_nameless (rw e) (plain_go nameless (λ u. refl) (rw e))
 
-  simple_go : get_or ty_kinds k k_plain ≡ k_plain → Tries t (ty_of a b k (get_or ty_kinds k k_plain)) analyze_type ty_b s o l w (with_wrote s v) none o' l w
+  simple_go : get_or ty_kinds k k_plain ≡ k_plain → Tries t (ty_of a b k (get_or ty_kinds k k_plain)) analyze_type ty_b s o l w r none o' l' w'
   unfolding ty_of ty_b analyze_type S.ret
   simple_go e = as_kind a b k k_plain e (plain_go (plain k) (λ u. refl) refl)
 
-  pub type_alone : (k < 14) ⊎ ((k ≡ 23) ⊎ (26 ≤ k)) → Tries t (ty_of a b k (get_or ty_kinds k k_plain)) analyze_type ty_b s o l w (with_wrote s v) none o' l w
+  -- the kinds 0 to 13
+  pub type_simple : k < 14 → Tries t (ty_of a b k (get_or ty_kinds k k_plain)) analyze_type ty_b s o l w r none o' l' w'
   unfolding ty_kinds
-  type_alone (inl h) = simple_go (run ty_kinds 0 14 k_plain k_plain refl k (omega arith) (omega arith))
-  type_alone (inr (inl e)) = nameless_go e
-  type_alone (inr (inr h)) = simple_go (get_or_past ty_kinds k k_plain h)
+  type_simple h = simple_go (run ty_kinds 0 14 k_plain k_plain refl k (omega arith) (omega arith))
+
+  -- kind 23; there is none from 26 on
+  pub type_nameless : (k ≡ 23) ⊎ (26 ≤ k) → Tries t (ty_of a b k (get_or ty_kinds k k_plain)) analyze_type ty_b s o l w r none o' l' w'
+  unfolding ty_kinds
+  type_nameless (inl e) = nameless_go e
+  type_nameless (inr h) = simple_go (get_or_past ty_kinds k k_plain h)
 
 -- AN ELEMENT AND ITS LENGTH, A WORD AND ITS SIZE
 

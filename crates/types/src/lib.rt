@@ -52,17 +52,27 @@ fn type_of(
     ensures { (own : Bool) (l : List ℕ) → Tries tree.now (ty_of (read_ty left own) (read_ty left false) kind (get_or ty_kinds kind k_plain)) analyze_type ty_b st.old answer.old l work.old st.new (fault_of result) answer.new l work.new }
 {
     match kind {
+        0..=13 => {
+            plain(answer, st, kind);
+            Ok(())
+        }
         14 => array(tree, answer, work, st, left),
         15 => array_with_named_length(tree, answer, work, st, left),
         16..=19 | 24..=25 => element_of(tree, answer, work, st, left, kind),
         20 | 22 => structure(tree, answer, work, st, kind),
         21 => word(tree, answer, work, st),
         _ => {
-            // The kinds with nothing behind them.
-            st.wrote = st.wrote.then_number(answer, kind);
+            plain(answer, st, kind);
             Ok(())
         }
     }
+}
+
+// The kinds with nothing behind them.
+fn plain(answer: &mut [u8], st: &mut Walk, kind: u32)
+    ensures { (t l w : List ℕ) → Walks t (ret kind) say_number st.old answer.old l w st.new answer.new l w }
+{
+    st.wrote = st.wrote.then_number(answer, kind);
 }
 
 // The kinds that hold one type, and then perhaps something else: the kind and the type.

@@ -2,7 +2,7 @@ use mathlib.Core.Bool.{false}
 use native.Mathlib.Omega.{arith}
 use Rattle.walk.proofs.Leading.{tries}
 use Rattle.walk.proofs.Writing.{moved_on}
-use Rattle.types.proofs.Arms.{array_fine, array_bad, named_fine, named_late, named_bad, element_fine, element_bad, type_array, type_named, type_word, type_structure, type_element, type_alone, type_unread, type_deep, type_in}
+use Rattle.types.proofs.Arms.{array_fine, array_bad, named_fine, named_late, named_bad, element_fine, element_bad, type_array, type_named, type_word, type_structure, type_element, type_simple, type_nameless, type_unread, type_deep, type_in}
 use Rattle.types.proofs.+types.Goals as goal
 
 pub array-returns-in-Err : goal.array-returns-in-Err
@@ -41,8 +41,11 @@ type_of-returns-in-20 t c = λ own l. type_structure _ _ _ c.in-20.is (c.structu
 pub type_of-returns-in-21 : goal.type_of-returns-in-21
 type_of-returns-in-21 t c = λ own l. type_word _ _ _ c.in-21.is (c.word.ensures _ _ l)
 
+pub type_of-returns-in-0-to-13 : goal.type_of-returns-in-0-to-13
+type_of-returns-in-0-to-13 t c = λ own l. type_simple _ _ _ (c.plain.ensures _ l _) (omega arith)
+
 pub type_of-returns-in_default : goal.type_of-returns-in_default
-type_of-returns-in_default t c = λ own l. type_alone _ _ _ c.then_number-st.ensures (grind arith)
+type_of-returns-in_default t c = λ own l. type_nameless _ _ _ (c.plain-in_default.ensures _ l _) (grind arith)
 
 pub value_type-returns-in_default : goal.value_type-returns-in_default
 value_type-returns-in_default t c = λ own l. tries λ j a i. type_unread own c.below.ensures _ c.in_default.is
