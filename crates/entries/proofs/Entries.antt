@@ -49,7 +49,7 @@ unfolding declare_maybe maybe_b
 name_bad k i a f e q = ap (λ (xs : List ℕ). record { out = a.out ++ xs; st = (declare_variable k i a.st).1; rest = a.rest }) (ap (λ (xs : List ℕ). num_b 1 ++ xs) q ∙ ap (maybe_b ident_b) (sym e))
 
 module _ {kind : ℕ} {t : List ℕ} {s : Walk} {r₁ : Result (Identifier × ℕ) Refusal} (g : Identifies t s.script.names s.at r₁) {o w : List ℕ} where
-  pub declared_unread : {x : Refusal} {r : Walk} {name : Option ℕ} {o' w' : List ℕ} → r₁ ≡ Err x → DeclaresEntry kind t s o w r name o' w'
+  pub declared_unread : {x : Refusal} {r : Walk} {answered : Result (Option ℕ) Refusal} {o' w' : List ℕ} → r₁ ≡ Err x → DeclaresEntry kind t s o w r answered o' w'
   declared_unread e = record { does = λ q₁ q₂ h l a out few room i. leads_unnamed g e }
 
   module _ {j : Identifier} {n : ℕ} (e : r₁ ≡ Ok (j, n)) {s₁ : Walk} {w' : List ℕ} where
@@ -57,7 +57,7 @@ module _ {kind : ℕ} {t : List ℕ} {s : Walk} {r₁ : Result (Identifier × �
         → Naming (declare_variable kind) s s.at (ident_of s.at j) a o s₁ v l w'
     naming k q₁ q₂ h l a out few room i = let low = identified_low g e in (k.does q₁ q₂).does (omega (arith, h.short, low.0)) low.1 few o l a room (λ z. (out z).is) i
 
-    pub declared_as : {made : Identifier} {x : Wrote} {o' : List ℕ} → DeclaresBy kind s j s.at w s₁ (Ok made) w' → Put s₁.wrote (num_b 0 ++ made_b made) o x o' → DeclaresEntry kind t s o w (moved_to (with_wrote s₁ x) n) (Some made.place) o' w'
+    pub declared_as : {made : Identifier} {x : Wrote} {o' : List ℕ} → DeclaresBy kind s j s.at w s₁ (Ok made) w' → Put s₁.wrote (num_b 0 ++ made_b made) o x o' → DeclaresEntry kind t s o w (moved_to (with_wrote s₁ x) n) (Ok (Some made.place)) o' w'
     unfolding declare_maybe
     declared_as {made} k put = record {
       does = λ q₁ q₂ h l a out few room i.
@@ -66,11 +66,13 @@ module _ {kind : ℕ} {t : List ℕ} {s : Walk} {r₁ : Result (Identifier × �
           let fine = λ (z : _). made_used (m.made z) refl in
           leads_name g e (record {
             did = record { cur = sym (ap (λ (c : Cur). cursor n c.names c.counts) m.cur); is = is_same (λ z. name_fine kind y a (fine (record { few = z.few; fit = z.fit }))) (wrote_on m.is put) };
+            name = Some made.place;
+            read = refl;
             told = λ z. subst (λ (d : Maybe Spot (Ident Spot)). Names (Some made.place) d) (sym (fine (record { few = z.few; fit = z.fit }))) (named refl);
           });
     }
 
-    pub declared_not : {f : Fault} {x : Wrote} {o' : List ℕ} → DeclaresBy kind s j s.at w s₁ (Err f) w' → Put s₁.wrote (num_b 1 ++ fault_b f) o x o' → DeclaresEntry kind t s o w (moved_to (with_wrote s₁ x) n) None o' w'
+    pub declared_not : {f : Fault} {x : Wrote} {o' : List ℕ} → DeclaresBy kind s j s.at w s₁ (Err f) w' → Put s₁.wrote (num_b 1 ++ fault_b f) o x o' → DeclaresEntry kind t s o w (moved_to (with_wrote s₁ x) n) (Ok None) o' w'
     unfolding declare_maybe
     declared_not {f} k put = record {
       does = λ q₁ q₂ h l a out few room i.
@@ -78,6 +80,8 @@ module _ {kind : ℕ} {t : List ℕ} {s : Walk} {r₁ : Result (Identifier × �
           let m = naming k q₁ q₂ h l a out few room i in
           leads_name g e (record {
             did = record { cur = sym (ap (λ (c : Cur). cursor n c.names c.counts) m.cur); is = is_same (λ z. let b = made_refused (m.made (record { few = z.few; fit = z.fit })) refl in name_bad kind y a f b.1 b.2) (wrote_on m.is put) };
+            name = None;
+            read = refl;
             told = λ z. let b = made_refused (m.made (record { few = z.few; fit = z.fit })) refl in subst (λ (d : Maybe Spot (Ident Spot)). Names None d) (sym b.1) nameless;
           });
     }
@@ -131,19 +135,21 @@ leads_by f {m = m} k = leads_bind m _ λ y e h. leads_got (f y) (k.to y e h)
 
 -- PLACE AND NAME
 
-entered_at : {kind : ℕ} (p : Spot) {x : Maybe Spot (Ident Spot)} {d : Cur} (a : Ground) {r : Walk} {name : Option ℕ} {o l w : List ℕ} → Entered kind (maybe_b ident_b) x d (say (place_b p) a) r name o l w → Entered kind (placed_b p) x d a r name o l w
+entered_at : {kind : ℕ} (p : Spot) {x : Maybe Spot (Ident Spot)} {d : Cur} (a : Ground) {r : Walk} {answered : Result (Option ℕ) Refusal} {o l w : List ℕ} → Entered kind (maybe_b ident_b) x d (say (place_b p) a) r answered o l w → Entered kind (placed_b p) x d a r answered o l w
 entered_at {kind} p {x} a k = record {
   did = record { cur = k.did.cur; is = is_same (λ _. ap (λ (xs : List ℕ). record { out = xs; st = (declare_maybe kind x a.st).1; rest = a.rest }) (append_assoc a.out (place_b p) _)) k.did.is };
+  name = k.name;
+  read = k.read;
   told = λ z. k.told (record { few = z.few; fit = z.fit });
 }
 
 module _ {t : List ℕ} (s : Walk) {m₁ : Result (ℕ × ℕ) Refusal} (g : Gives num t s.at m₁) where
-  pub entry_unplaced : {kind : ℕ} {x : Refusal} {o w : List ℕ} {r : Walk} {name : Option ℕ} {o' w' : List ℕ} → m₁ ≡ Err x → NamesEntry kind t s o w r name o' w'
+  pub entry_unplaced : {kind : ℕ} {x : Refusal} {o w : List ℕ} {r : Walk} {answered : Result (Option ℕ) Refusal} {o' w' : List ℕ} → m₁ ≡ Err x → NamesEntry kind t s o w r answered o' w'
   unfolding place_and_name
   entry_unplaced e = record { does = λ q₁ q₂ h l a out is. leads_unpassed (entry_unread _ (subst (λ (q : Result (ℕ × ℕ) Refusal). Gives num t s.at q) e g)) }
 
   module _ {v n : ℕ} (e : m₁ ≡ Ok (v, n)) {b : K.Counts} {y : Option K.Counts} (c : Counting s.counts b y) (u : counts_of b ≡ an_entry) where
-    pub entry_full : {kind : ℕ} {o w : List ℕ} {r : Walk} {name : Option ℕ} {o' w' : List ℕ} → y ≡ None → NamesEntry kind t s o w r name o' w'
+    pub entry_full : {kind : ℕ} {o w : List ℕ} {r : Walk} {answered : Result (Option ℕ) Refusal} {o' w' : List ℕ} → y ≡ None → NamesEntry kind t s o w r answered o' w'
     unfolding place_and_name
     entry_full q = record { does = λ q₁ q₂ h l a out is. leads_unpassed (entry_many _ (subst (λ (z : Result (ℕ × ℕ) Refusal). Gives num t s.at z) e g) (subst (λ (z : Option K.Counts). Counting s.counts b z) q c) u) }
 
@@ -153,7 +159,7 @@ module _ {t : List ℕ} (s : Walk) {m₁ : Result (ℕ × ℕ) Refusal} (g : Giv
       unfolding place_and_name counted
       leads_entry {P} next = let d = more c u f in leads_counting (λ _. an_entry) place _ (place_value s.script.names (counts_of s.counts) g e) λ _. leads_at (ap (cursor n s.script.names) d.counts) (leads_by (λ i. (record { number = v; from = s.at }, i)) {P = P} next)
 
-      pub entry_untagged : {kind : ℕ} {m₂ : Result (ℕ × ℕ) Refusal} → Gives (below 2) t n m₂ → {x : Refusal} {o w : List ℕ} {r : Walk} {name : Option ℕ} {o' w' : List ℕ} → m₂ ≡ Err x → NamesEntry kind t s o w r name o' w'
+      pub entry_untagged : {kind : ℕ} {m₂ : Result (ℕ × ℕ) Refusal} → Gives (below 2) t n m₂ → {x : Refusal} {o w : List ℕ} {r : Walk} {answered : Result (Option ℕ) Refusal} {o' w' : List ℕ} → m₂ ≡ Err x → NamesEntry kind t s o w r answered o' w'
       entry_untagged tag z = record { does = λ q₁ q₂ h l a out is. leads_entry (leads_unmaybe tag ident z) }
 
       -- it is counted, its place is written, its tag is read
@@ -168,14 +174,14 @@ module _ {t : List ℕ} (s : Walk) {m₁ : Result (ℕ × ℕ) Refusal} (g : Giv
             moved_on (Writing.counted (wrote i put) a.rest (omega (arith, d.entries)) refl refl refl (λ y. y) (λ y m. marks_on d m))
 
         module _ {m₂ : Result (ℕ × ℕ) Refusal} (tag : Gives (below 2) t n m₂) {tg : ℕ} (z : m₂ ≡ Ok (tg, n₂)) where
-          pub entry_nameless : {kind : ℕ} {r : Walk} {o' w : List ℕ} → (tg ≡ 0 → ⊥) → ((l w : List ℕ) → Walks t read_poison (say_poison 1) (behind x n₂) o₁ l w r o' l w) → NamesEntry kind t s o w r None o' w
+          pub entry_nameless : {kind : ℕ} {r : Walk} {o' w : List ℕ} → (tg ≡ 0 → ⊥) → ((l w : List ℕ) → Walks t read_poison (say_poison 1) (behind x n₂) o₁ l w r o' l w) → NamesEntry kind t s o w r (Ok None) o' w
           unfolding declare_maybe maybe_b S.ret
           entry_nameless {w = w} ne k₁ = record {
             does = λ q₁ q₂ h l a out i. leads_entry (leads_err tag ident z ne (leads_call _ (k₁ l w) h (is_entry i) λ y _ i₁.
-                leads_got (err y) (entered_at _ a (record { did = record { cur = refl; is = i₁ }; told = λ _. nameless }))));
+                leads_got (err y) (entered_at _ a (record { did = record { cur = refl; is = i₁ }; name = None; read = refl; told = λ _. nameless }))));
           }
 
-          pub entry_declared : {kind : ℕ} {w : List ℕ} {r : Walk} {name : Option ℕ} {o' w' : List ℕ} → tg ≡ 0 → DeclaresEntry kind t (behind x n₂) o₁ w r name o' w' → NamesEntry kind t s o w r name o' w'
+          pub entry_declared : {kind : ℕ} {w : List ℕ} {r : Walk} {answered : Result (Option ℕ) Refusal} {o' w' : List ℕ} → tg ≡ 0 → DeclaresEntry kind t (behind x n₂) o₁ w r answered o' w' → NamesEntry kind t s o w r answered o' w'
           entry_declared eq k₁ = record {
             does = λ q₁ q₂ h l a out i.
                 let d = more c u f in

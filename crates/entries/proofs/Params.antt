@@ -116,8 +116,20 @@ name_ids k (err z) a = omega arith
 good_before : (k : ℕ) (p : Spot) (x : Maybe Spot (Ident Spot)) (a : Ground) → Good (onward (declare_maybe k) (placed_b p) x a) → Good a
 good_before k p x a z = record { few = omega (arith, z.few, name_ids k x a.st); fit = z.fit }
 
-module _ {t : List ℕ} {s : Walk} {o l w : List ℕ} {s₁ : Walk} {name : Option ℕ} {o₁ w₁ : List ℕ} {r : Walk} {o₂ w₂ : List ℕ} where
-  pub parameter_typed : NamesEntry 5 t s o w s₁ name o₁ w₁ → Walks t (maybe (read_ty 63 false)) (onward analyze_maybe_type (maybe_b ty_b)) s₁ o₁ l w₁ r o₂ l w₂ → Under Outside t (read_param 63 false) param_walk s o l w r o₂ l w₂
+-- one who was read is not told as unread
+read_not : {answered : Result (Option ℕ) Refusal} {name : Option ℕ} {x : Refusal} {A : Type 0} → answered ≡ Ok name → answered ≡ Err x → A
+read_not e u = absurd (let z : ◌≡◌ {A = ℕ} 0 1 = cc in omega arith)
+
+same_name : {answered : Result (Option ℕ) Refusal} {name told : Option ℕ} → answered ≡ Ok name → answered ≡ Ok told → name ≡ told
+same_name e u = cc
+
+module _ {t : List ℕ} {s : Walk} {o l w : List ℕ} {s₁ : Walk} {answered : Result (Option ℕ) Refusal} {o₁ w₁ : List ℕ} {r : Walk} {o₂ w₂ : List ℕ} where
+  -- its name was not read
+  pub parameter_unread : {x : Refusal} → NamesEntry 5 t s o w s₁ answered o₁ w₁ → answered ≡ Err x → Under Outside t (read_param 63 false) param_walk s o l w r o₂ l w₂
+  unfolding read_param poison_names poison_places poison_fields
+  parameter_unread k e = record { does = λ h a out i. leads_named _ (k.does refl refl h l a out i) λ p x d z. read_not z.read e }
+
+  pub parameter_typed : NamesEntry 5 t s o w s₁ answered o₁ w₁ → Walks t (maybe (read_ty 63 false)) (onward analyze_maybe_type (maybe_b ty_b)) s₁ o₁ l w₁ r o₂ l w₂ → Under Outside t (read_param 63 false) param_walk s o l w r o₂ l w₂
   unfolding read_param poison_names poison_places poison_fields
   parameter_typed k kt = record {
     does = λ h a out i. leads_named _ (k.does refl refl h l a out i) λ p x d z.
@@ -127,10 +139,15 @@ module _ {t : List ℕ} {s : Walk} {o l w : List ℕ} {s₁ : Walk} {name : Opti
 
   -- ONE MEMBER
 
-  -- its type, held as is decided by its name
-  pub member_typed : {row : ℕ} {c : Ident Spot} {by : Option Holder} → NamesEntry 6 t s o w s₁ name o₁ w₁ → Decides name row by → TypesMember t by s₁ o₁ l w₁ r o₂ l w₂ → Under (InStructure row c) t (read_param 63 true) (member_walk c) s o l w r o₂ l w₂
+  -- its name was not read
+  pub member_unread : {row : ℕ} {c : Ident Spot} {x : Refusal} → NamesEntry 6 t s o w s₁ answered o₁ w₁ → answered ≡ Err x → Under (InStructure row c) t (read_param 63 true) (member_walk c) s o l w r o₂ l w₂
   unfolding read_param poison_names poison_places poison_fields
-  member_typed {row} {c} {by} k d kt = record {
+  member_unread k e = record { does = λ h a out i. leads_named _ (k.does refl refl h l a (λ z. (out z).outside) i) λ p x d z. read_not z.read e }
+
+  -- its type, held as is decided by its name
+  pub member_typed : {name : Option ℕ} {row : ℕ} {c : Ident Spot} {by : Option Holder} → NamesEntry 6 t s o w s₁ answered o₁ w₁ → answered ≡ Ok name → Decides name row by → TypesMember t by s₁ o₁ l w₁ r o₂ l w₂ → Under (InStructure row c) t (read_param 63 true) (member_walk c) s o l w r o₂ l w₂
+  unfolding read_param poison_names poison_places poison_fields
+  member_typed {name} {row} {c} {by} k u d kt = record {
     does = λ h a out i. leads_named _ (k.does refl refl h l a (λ z. (out z).outside) i) λ p x b z.
         let a₁ : Ground = onward (declare_maybe 6) (placed_b p) x a in
         let i₁ : Is s₁ o₁ l w₁ a₁ = z.did.is in
@@ -143,7 +160,7 @@ module _ {t : List ℕ} {s : Walk} {o l w : List ℕ} {s₁ : Walk} {name : Opti
         }) i₁ in
         leads_at (sym z.did.cur) (leads_bind _ _ λ y f g. leads_got (record { place = p; ident = x; type = y }) (record {
           cur = let m = someone name in ((goes_on m.0 m.1).to y f g).cur;
-          is = is_when λ u. let m = told_is (z.told (good_name c p x y a u)) in is_same (λ _. member_held_is by c m.0 p x y a (d.edges c m.0 _ m.1)) ((goes_on m.0 m.2).to y f g).is;
+          is = is_when λ good. let m = told_is (subst (λ (v : Option ℕ). Names v (declare_maybe 6 x a.st).0) (same_name z.read u) (z.told (good_name c p x y a good))) in is_same (λ _. member_held_is by c m.0 p x y a (d.edges c m.0 _ m.1)) ((goes_on m.0 m.2).to y f g).is;
         }));
   }
 

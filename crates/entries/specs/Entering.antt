@@ -2,7 +2,8 @@
 use Rattle.std.specs.Prelude.{ℕ, ◌≤◌, ◌<◌, ◌≡◌, true, List, ◌++◌, length, get_or}
 use Rattle.std.proofs.Math.Option.{none, some}
 use Rattle.std.specs.Prelude as P
-use Rattle.std.specs.Prelude.{Some, None}
+use Rattle.std.specs.Prelude.{Some, None, Result, Ok}
+use Rattle.fields.specs.declared.refusal.Refusal.{Refusal}
 use Rattle.penne.specs.Reader.{Cur, Reader, ◌>>=◌, ret, an_entry, counting}
 use Rattle.penne.specs.Tree.{Spot, Ident, Poison, Maybe, ok, err, Ty, Param}
 use Rattle.penne.specs.Read.{place, ident, maybe, read_ty}
@@ -88,15 +89,17 @@ pub data Names : P.Option ℕ → Maybe Spot (Ident Spot) → Type 0 where
   named : {p : ℕ} {i : Ident Spot} → p ≡ i.place.number → Names (Some p) (ok i)
   nameless : {z : Poison Spot} → Names None (err z)
 
--- the name i was declared, and written by e
-pub record Entered (kind : ℕ) (e : Maybe Spot (Ident Spot) → List ℕ) (i : Maybe Spot (Ident Spot)) (d : Cur) (a : Ground) (r : Walk) (name : P.Option ℕ) (o l w : List ℕ) : Type 0 where
+-- the name i was declared, and written by e; that it was read is told
+pub record Entered (kind : ℕ) (e : Maybe Spot (Ident Spot) → List ℕ) (i : Maybe Spot (Ident Spot)) (d : Cur) (a : Ground) (r : Walk) (answered : Result (P.Option ℕ) Refusal) (o l w : List ℕ) : Type 0 where
   pub did : Did d (onward (declare_maybe kind) e i a) r o l w
+  pub name : P.Option ℕ
+  pub read : answered ≡ Ok name
   pub told : Good (onward (declare_maybe kind) e i a) → Names name (declare_maybe kind i a.st).0
 
 -- declared: its tag is read, and it is counted
-pub record DeclaresEntry (kind : ℕ) (t : List ℕ) (s : Walk) (o w : List ℕ) (r : Walk) (name : P.Option ℕ) (o' w' : List ℕ) : Type 0 where
+pub record DeclaresEntry (kind : ℕ) (t : List ℕ) (s : Walk) (o w : List ℕ) (r : Walk) (answered : Result (P.Option ℕ) Refusal) (o' w' : List ℕ) : Type 0 where
   pub does : 1 ≡ get_or poison_names kind 0 → 2 ≡ get_or poison_places kind 0 → Input t → (l : List ℕ) (a : Ground) → (Good a → Outside a) → s.counts.entries ≤ 1024 → (Good a → length a.st.variable_stack.locals < s.counts.entries) → Is s o l w a
-      → Leads ident t (here s) (λ i d. Entered kind (maybe_b ident_b) (ok i) d a r name o' l w')
+      → Leads ident t (here s) (λ i d. Entered kind (maybe_b ident_b) (ok i) d a r answered o' l w')
 
 -- "p, maybe identifier"
 unfoldable pub place_and_name : Reader (Spot × Maybe Spot (Ident Spot))
@@ -107,6 +110,6 @@ abbrev pub placed_b : Spot → Maybe Spot (Ident Spot) → List ℕ
 placed_b p i = place_b p ++ maybe_b ident_b i
 
 -- entry_name
-pub record NamesEntry (kind : ℕ) (t : List ℕ) (s : Walk) (o w : List ℕ) (r : Walk) (name : P.Option ℕ) (o' w' : List ℕ) : Type 0 where
+pub record NamesEntry (kind : ℕ) (t : List ℕ) (s : Walk) (o w : List ℕ) (r : Walk) (answered : Result (P.Option ℕ) Refusal) (o' w' : List ℕ) : Type 0 where
   pub does : 1 ≡ get_or poison_names kind 0 → 2 ≡ get_or poison_places kind 0 → Input t → (l : List ℕ) (a : Ground) → (Good a → Outside a) → Is s o l w a
-      → Leads place_and_name t (here s) (λ x d. Entered kind (placed_b x.0) x.1 d a r name o' l w')
+      → Leads place_and_name t (here s) (λ x d. Entered kind (placed_b x.0) x.1 d a r answered o' l w')

@@ -10,6 +10,7 @@ ghost use Rattle.entries.specs.Entering.{Decides, Outside, InStructure, Under, p
 use fields::counts::{count, entry};
 use fields::field::read_identifier;
 use fields::number::{below, number};
+use fields::refusal::{Reason, Refusal};
 use types::{contained_type, maybe_type};
 use walk::edges::Holder;
 use walk::items::{copy_poison, write_fault, write_ok};
@@ -32,35 +33,32 @@ pub fn parameters(tree: &[u8], answer: &mut [u8], work: &mut [u32], st: &mut Wal
 fn parameter(tree: &[u8], answer: &mut [u8], work: &mut [u32], st: &mut Walk)
     ensures { (l : List ℕ) → Under Outside tree.now (read_param 63 false) param_walk st.old answer.old l work.old st.new answer.new l work.new }
 {
-    entry_name(tree, answer, work, st, 5);
+    let Ok(_) = entry_name(tree, answer, work, st, 5) else {
+        return;
+    };
     maybe_type(tree, answer, work, st, 63);
 }
 
-// Place and name of a parameter (kind 5) or a member (6). What it answers is the place of the name, unless that is a poison.
+// Place and name of a parameter (kind 5) or a member (6). What it answers is the place of the name, unless that is a poison; a refusal where they cannot be read, so that no type is looked for behind them.
 fn entry_name(
     tree: &[u8],
     answer: &mut [u8],
     work: &mut [u32],
     st: &mut Walk,
     kind: u32,
-) -> Option<u32>
+) -> Result<Option<u32>, Refusal>
     ensures { NamesEntry kind tree.now st.old answer.old work.old st.new result answer.new work.new }
 {
-    let Ok((p, a)) = number(tree, st.at) else {
-        return None;
-    };
-    let Some(c) = count(st.counts, entry()) else {
-        return None;
-    };
-    let Ok((t, b)) = below(tree, 2, a) else {
-        return None;
-    };
+    let from = st.at;
+    let (p, a) = number(tree, from)?;
+    let c = count(st.counts, entry()).ok_or(Reason::TooMany.at(from))?;
+    let (t, b) = below(tree, 2, a)?;
     st.wrote = st.wrote.then_number(answer, p);
     st.counts = c;
     st.at = b;
     if t != 0 {
         copy_poison(tree, answer, st, 1);
-        return None;
+        return Ok(None);
     }
     declared(tree, answer, work, st, kind)
 }
@@ -71,23 +69,21 @@ fn declared(
     work: &mut [u32],
     st: &mut Walk,
     kind: u32,
-) -> Option<u32>
+) -> Result<Option<u32>, Refusal>
     ensures { DeclaresEntry kind tree.now st.old answer.old work.old st.new result answer.new work.new }
 {
     let from = st.at;
-    let Ok((i, a)) = read_identifier(tree, st.script.names, from) else {
-        return None;
-    };
+    let (i, a) = read_identifier(tree, st.script.names, from)?;
     let named = st.declare_variable(work, kind, i, from);
     st.at = a;
     match named {
         Ok(made) => {
             st.wrote = write_ok(answer, st.wrote, made);
-            Some(made.place)
+            Ok(Some(made.place))
         }
         Err(fault) => {
             st.wrote = write_fault(answer, st.wrote, 1, fault);
-            None
+            Ok(None)
         }
     }
 }
@@ -110,7 +106,9 @@ pub fn members(tree: &[u8], answer: &mut [u8], work: &mut [u32], st: &mut Walk, 
 fn member(tree: &[u8], answer: &mut [u8], work: &mut [u32], st: &mut Walk, row: u32)
     ensures { (c : Ident Spot) (l : List ℕ) → Under (InStructure row c) tree.now (read_param 63 true) (member_walk c) st.old answer.old l work.old st.new answer.new l work.new }
 {
-    let name = entry_name(tree, answer, work, st, 6);
+    let Ok(name) = entry_name(tree, answer, work, st, 6) else {
+        return;
+    };
     let holder = member_holder(name, row as usize);
     member_type(tree, answer, work, st, holder);
 }
