@@ -29,14 +29,14 @@ use Rattle.walk.specs.declared.state.Walk.{Walk}
 use Rattle.walk.specs.declared.fault.Fault.{Fault}
 use Rattle.walk.specs.Walking.{moved_to, with_wrote, with_counts, here, Rest, Marks, Ground, Good, Is, onward, silently, say, say_poison, Leads, Input, Walks, fault_b, made_b, Naming}
 use Rattle.walk.specs.Calls.{DeclaresBy}
-use Rattle.walk.proofs.Leading.{leads_unpassed, leads_bind, leads_got, leads_call, leads_counting, is_same, leads_at}
+use Rattle.walk.proofs.Leading.{leads_unpassed, bind_is, leads_bind, leads_got, leads_call, leads_counting, is_same, leads_at}
 use Rattle.walk.proofs.Writing.{moved_on, wrote, wrote_on}
 use Rattle.walk.proofs.Writing as Writing
 use Rattle.walk.proofs.Choosing.{leads_unmaybe, leads_ok, leads_err}
 use Rattle.walk.proofs.Identifying.{identified_low}
 use Rattle.types.proofs.Trying.{leads_name, leads_unnamed}
 use Rattle.walk.proofs.Using.{made_used, made_refused}
-use Rattle.entries.specs.Entering.{Outside, Names, named, nameless, Entered, DeclaresEntry, place_and_name, placed_b, NamesEntry}
+use Rattle.entries.specs.Entering.{Outside, Names, named, nameless, Unread, Refuses, place_and_tag, Entered, DeclaresEntry, place_and_name, placed_b, NamesEntry}
 
 -- THE NAME
 
@@ -142,6 +142,19 @@ entered_at {kind} p {x} a k = record {
   read = k.read;
   told = λ z. k.told (record { few = z.few; fit = z.fit });
 }
+
+-- WHERE IT STOPS
+
+pub refuses : {t : List ℕ} {s : Walk} {o w : List ℕ} {answered : Result (Option ℕ) Refusal} {x : Refusal} → answered ≡ Err x → Refuses t s o w s answered o w
+refuses {x = x} e = record { stops = record { still = λ u. (refl, refl, refl) }; refused = λ u. (x, e) }
+
+begun : {t : List ℕ} (s : Walk) {v n tg n₂ : ℕ} → Gives num t s.at (Ok (v, n)) → Gives (below 2) t n (Ok (tg, n₂)) → Unread t s → ⊥
+unfolding place_and_tag
+begun {t} s {tg = tg} g tag u = u.to tg _ (bind_is place (λ p. below 2) t (here s) (place_value s.script.names (counts_of s.counts) g refl) ∙ tag.is s.script.names (counts_of s.counts))
+
+-- both were read
+pub goes_on : {t : List ℕ} {s : Walk} {v n tg n₂ : ℕ} → Gives num t s.at (Ok (v, n)) → Gives (below 2) t n (Ok (tg, n₂)) → {o w : List ℕ} {r : Walk} {answered : Result (Option ℕ) Refusal} {o' w' : List ℕ} → Refuses t s o w r answered o' w'
+goes_on {s = s} g tag = record { stops = record { still = λ u. absurd (begun s g tag u) }; refused = λ u. absurd (begun s g tag u) }
 
 module _ {t : List ℕ} (s : Walk) {m₁ : Result (ℕ × ℕ) Refusal} (g : Gives num t s.at m₁) where
   pub entry_unplaced : {kind : ℕ} {x : Refusal} {o w : List ℕ} {r : Walk} {answered : Result (Option ℕ) Refusal} {o' w' : List ℕ} → m₁ ≡ Err x → NamesEntry kind t s o w r answered o' w'

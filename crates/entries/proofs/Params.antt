@@ -33,7 +33,7 @@ use Rattle.walk.proofs.Loops.{Kept, kept_more}
 use Rattle.walk.proofs.Leading.{leads_bind, leads_read, leads_unread, leads_call, leads_end, leads_got, is_same, bind_is, leads_at}
 use Rattle.walk.proofs.Writing.{wrote_on}
 use Rattle.types.specs.Typing.{analyze_contained, Contains}
-use Rattle.entries.specs.Entering.{Outside, InStructure, Under, param_walk, member_walk, analyze_held, TypesMember, Names, named, nameless, place_and_name, placed_b, NamesEntry}
+use Rattle.entries.specs.Entering.{Outside, InStructure, Under, param_walk, member_walk, analyze_held, TypesMember, Names, named, nameless, Stops, Refuses, place_and_name, placed_b, NamesEntry}
 use Rattle.entries.proofs.Staying.{inside_name, outside_param, inside_member}
 
 -- PLACE AND NAME, AND THEN THE REST
@@ -122,6 +122,10 @@ read_not e u = absurd (let z : ◌≡◌ {A = ℕ} 0 1 = cc in omega arith)
 
 same_name : {answered : Result (Option ℕ) Refusal} {name told : Option ℕ} → answered ≡ Ok name → answered ≡ Ok told → name ≡ told
 same_name e u = cc
+
+-- where the name was read, the walk does not stop
+pub read_on : {t : List ℕ} {s : Walk} {o w : List ℕ} {s₁ : Walk} {answered : Result (Option ℕ) Refusal} {o₁ w₁ : List ℕ} → Refuses t s o w s₁ answered o₁ w₁ → {name : Option ℕ} → answered ≡ Ok name → {r : Walk} {o₂ w₂ : List ℕ} → Stops t s o w r o₂ w₂
+read_on k e = record { still = λ u. read_not e (k.refused u).1 }
 
 module _ {t : List ℕ} {s : Walk} {o l w : List ℕ} {s₁ : Walk} {answered : Result (Option ℕ) Refusal} {o₁ w₁ : List ℕ} {r : Walk} {o₂ w₂ : List ℕ} where
   -- its name was not read

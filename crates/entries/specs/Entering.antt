@@ -2,9 +2,9 @@
 use Rattle.std.specs.Prelude.{ℕ, ◌≤◌, ◌<◌, ◌≡◌, true, List, ◌++◌, length, get_or}
 use Rattle.std.proofs.Math.Option.{none, some}
 use Rattle.std.specs.Prelude as P
-use Rattle.std.specs.Prelude.{Some, None, Result, Ok}
+use Rattle.std.specs.Prelude.{Some, None, Result, Ok, Err}
 use Rattle.fields.specs.declared.refusal.Refusal.{Refusal}
-use Rattle.penne.specs.Reader.{Cur, Reader, ◌>>=◌, ret, an_entry, counting}
+use Rattle.penne.specs.Reader.{Cur, Reader, ◌>>=◌, ret, below, an_entry, counting}
 use Rattle.penne.specs.Tree.{Spot, Ident, Poison, Maybe, ok, err, Ty, Param}
 use Rattle.penne.specs.Read.{place, ident, maybe, read_ty}
 use Rattle.penne.specs.Write.{place_b, ident_b, ty_b, maybe_b, list_b, param_b}
@@ -33,6 +33,20 @@ pub record InStructure (row : ℕ) (c : Ident Spot) (a : Ground) : Type 0 where
 -- A WALKING FUNCTION, where P is known of the ground
 pub record Under {A : Type 0} (P : Ground → Type 0) (t : List ℕ) (m : Reader A) (f : A → Ground → Ground) (s : Walk) (o l w : List ℕ) (r : Walk) (o' l' w' : List ℕ) : Type 0 where
   pub does : Input t → (a : Ground) → (Good a → P a) → Is s o l w a → Leads m t (here s) (λ x d. Did d (f x a) r o' l' w')
+
+-- WHERE THE WALK STOPS
+
+-- an entry's place, then the tag of its name
+unfoldable pub place_and_tag : Reader ℕ
+place_and_tag = place >>= λ p. below 2
+
+-- one of them cannot be read
+abbrev pub Unread : List ℕ → Walk → Type 0
+Unread t s = Leads place_and_tag t (here s) (λ k d. ⊥)
+
+-- there nothing is done
+pub record Stops (t : List ℕ) (s : Walk) (o w : List ℕ) (r : Walk) (o' w' : List ℕ) : Type 0 where
+  pub still : Unread t s → (r ≡ s) × (o' ≡ o) × (w' ≡ w)
 
 -- WHAT IS DONE TO THE GROUND
 
@@ -109,7 +123,11 @@ place_and_name = counting (λ _. an_entry) place >>= λ p. maybe ident >>= λ i.
 abbrev pub placed_b : Spot → Maybe Spot (Ident Spot) → List ℕ
 placed_b p i = place_b p ++ maybe_b ident_b i
 
--- entry_name
+-- entry_name: where it stops, it refuses
+pub record Refuses (t : List ℕ) (s : Walk) (o w : List ℕ) (r : Walk) (answered : Result (P.Option ℕ) Refusal) (o' w' : List ℕ) : Type 0 where
+  pub stops : Stops t s o w r o' w'
+  pub refused : Unread t s → (x : Refusal) × (answered ≡ Err x)
+
 pub record NamesEntry (kind : ℕ) (t : List ℕ) (s : Walk) (o w : List ℕ) (r : Walk) (answered : Result (P.Option ℕ) Refusal) (o' w' : List ℕ) : Type 0 where
   pub does : 1 ≡ get_or poison_names kind 0 → 2 ≡ get_or poison_places kind 0 → Input t → (l : List ℕ) (a : Ground) → (Good a → Outside a) → Is s o l w a
       → Leads place_and_name t (here s) (λ x d. Entered kind (placed_b x.0) x.1 d a r answered o' l w')

@@ -5,7 +5,7 @@ ghost use Rattle.std.specs.Prelude.{ℕ, false, true, List};
 ghost use Rattle.penne.specs.Tree.{Spot, Ident};
 ghost use Rattle.penne.specs.Read.{read_param};
 ghost use Rattle.penne.specs.Reader.{listed};
-ghost use Rattle.entries.specs.Entering.{Decides, Outside, InStructure, Under, param_walk, params_walk, member_walk, members_walk, TypesMember, DeclaresEntry, NamesEntry};
+ghost use Rattle.entries.specs.Entering.{Decides, Outside, InStructure, Under, param_walk, params_walk, member_walk, members_walk, TypesMember, DeclaresEntry, Stops, Refuses, NamesEntry};
 
 use fields::counts::{count, entry};
 use fields::field::read_identifier;
@@ -31,7 +31,8 @@ pub fn parameters(tree: &[u8], answer: &mut [u8], work: &mut [u32], st: &mut Wal
 
 // The name before the type.
 fn parameter(tree: &[u8], answer: &mut [u8], work: &mut [u32], st: &mut Walk)
-    ensures { (l : List ℕ) → Under Outside tree.now (read_param 63 false) param_walk st.old answer.old l work.old st.new answer.new l work.new }
+    ensures walked { (l : List ℕ) → Under Outside tree.now (read_param 63 false) param_walk st.old answer.old l work.old st.new answer.new l work.new }
+    ensures stopped { Stops tree.now st.old answer.old work.old st.new answer.new work.new }
 {
     let Ok(_) = entry_name(tree, answer, work, st, 5) else {
         return;
@@ -47,7 +48,8 @@ fn entry_name(
     st: &mut Walk,
     kind: u32,
 ) -> Result<Option<u32>, Refusal>
-    ensures { NamesEntry kind tree.now st.old answer.old work.old st.new result answer.new work.new }
+    ensures named { NamesEntry kind tree.now st.old answer.old work.old st.new result answer.new work.new }
+    ensures stopped { Refuses tree.now st.old answer.old work.old st.new result answer.new work.new }
 {
     let from = st.at;
     let (p, a) = number(tree, from)?;
@@ -104,7 +106,8 @@ pub fn members(tree: &[u8], answer: &mut [u8], work: &mut [u32], st: &mut Walk, 
 
 // Beside `parameter`: a member's type has edges.
 fn member(tree: &[u8], answer: &mut [u8], work: &mut [u32], st: &mut Walk, row: u32)
-    ensures { (c : Ident Spot) (l : List ℕ) → Under (InStructure row c) tree.now (read_param 63 true) (member_walk c) st.old answer.old l work.old st.new answer.new l work.new }
+    ensures walked { (c : Ident Spot) (l : List ℕ) → Under (InStructure row c) tree.now (read_param 63 true) (member_walk c) st.old answer.old l work.old st.new answer.new l work.new }
+    ensures stopped { Stops tree.now st.old answer.old work.old st.new answer.new work.new }
 {
     let Ok(name) = entry_name(tree, answer, work, st, 6) else {
         return;
