@@ -123,11 +123,12 @@ place_and_name = counting (λ _. an_entry) place >>= λ p. maybe ident >>= λ i.
 abbrev pub placed_b : Spot → Maybe Spot (Ident Spot) → List ℕ
 placed_b p i = place_b p ++ maybe_b ident_b i
 
--- entry_name: where it stops, it refuses
+-- entry_name: where the walk stops, it refuses
 pub record Refuses (t : List ℕ) (s : Walk) (o w : List ℕ) (r : Walk) (answered : Result (P.Option ℕ) Refusal) (o' w' : List ℕ) : Type 0 where
   pub stops : Stops t s o w r o' w'
   pub refused : Unread t s → (x : Refusal) × (answered ≡ Err x)
 
+-- and what is read it enters
 pub record NamesEntry (kind : ℕ) (t : List ℕ) (s : Walk) (o w : List ℕ) (r : Walk) (answered : Result (P.Option ℕ) Refusal) (o' w' : List ℕ) : Type 0 where
   pub does : 1 ≡ get_or poison_names kind 0 → 2 ≡ get_or poison_places kind 0 → Input t → (l : List ℕ) (a : Ground) → (Good a → Outside a) → Is s o l w a
       → Leads place_and_name t (here s) (λ x d. Entered kind (placed_b x.0) x.1 d a r answered o' l w')
