@@ -7,7 +7,7 @@ use native.Mathlib.Omega.{arith}
 use lib.ListN.{length, get_or}
 use Rattle.fields.specs.declared.refusal.Refusal.{Refusal}
 use Rattle.std.specs.Prelude.{Result, Ok, Err, Option, Some, None}
-use Rattle.penne.specs.Reader.{Counts, Cur, got, Reader, ◌>>=◌, ret, num, below, plus, fits, an_entry, counted}
+use Rattle.penne.specs.Reader.{Counts, Cur, got, Reader, ◌>>=◌, ret, num, below, plus, fits, an_entry, counting, counted}
 use Rattle.penne.specs.Tree.{Spot, Ident, Poison, Maybe, ok, err}
 use Rattle.penne.specs.Read.{place, ident, maybe, read_poison}
 use Rattle.penne.specs.Write.{num_b, place_b, poison_b, ident_b, maybe_b}
@@ -19,7 +19,7 @@ use Rattle.fields.specs.declared.counts.Counts as K
 use Rattle.fields.specs.Answers.{cursor, counts_of, ident_of, Gives, Reads, Identifies, Counting, poison_names, poison_places}
 use Rattle.fields.proofs.Chain.{reads}
 use Rattle.fields.proofs.Chain.{goes}
-use Rattle.fields.proofs.Counting.{fitted}
+use Rattle.fields.proofs.Counting.{fitted, counting_fits}
 use Rattle.tree.proofs.Statements.{entry_unread, entry_many}
 use Rattle.answer.specs.declared.wrote.Wrote.{Wrote}
 use Rattle.answer.specs.Out.{Put}
@@ -148,13 +148,16 @@ entered_at {kind} p {x} a k = record {
 pub refuses : {t : List ℕ} {s : Walk} {o w : List ℕ} {answered : Result (Option ℕ) Refusal} {x : Refusal} → answered ≡ Err x → Refuses t s o w s answered o w
 refuses {x = x} e = record { stops = record { still = λ u. (refl, refl, refl) }; refused = λ u. (x, e) }
 
-begun : {t : List ℕ} (s : Walk) {v n tg n₂ : ℕ} → Gives num t s.at (Ok (v, n)) → Gives (below 2) t n (Ok (tg, n₂)) → Unread t s → ⊥
-unfolding place_and_tag
-begun {t} s {tg = tg} g tag u = u.to tg _ (bind_is place (λ p. below 2) t (here s) (place_value s.script.names (counts_of s.counts) g refl) ∙ tag.is s.script.names (counts_of s.counts))
+begun : {t : List ℕ} (s : Walk) {v n tg n₂ : ℕ} {b k : K.Counts} {y : Option K.Counts} → Gives num t s.at (Ok (v, n)) → Counting s.counts b y → counts_of b ≡ an_entry → y ≡ Some k → Gives (below 2) t n (Ok (tg, n₂)) → Unread t s → ⊥
+unfolding place_and_tag counted
+begun {t} s {tg = tg} g c u f tag z =
+    let all = plus (counts_of s.counts) an_entry in
+    z.to tg _ (bind_is (counting (λ _. an_entry) place) (λ p. below 2) t (here s) (counting_fits (λ _. an_entry) place t (here s) (place_value s.script.names (counts_of s.counts) g refl) (more c u f).fit) ∙ tag.is s.script.names all)
 
 -- both were read
-pub goes_on : {t : List ℕ} {s : Walk} {v n tg n₂ : ℕ} → Gives num t s.at (Ok (v, n)) → Gives (below 2) t n (Ok (tg, n₂)) → {o w : List ℕ} {r : Walk} {answered : Result (Option ℕ) Refusal} {o' w' : List ℕ} → Refuses t s o w r answered o' w'
-goes_on {s = s} g tag = record { stops = record { still = λ u. absurd (begun s g tag u) }; refused = λ u. absurd (begun s g tag u) }
+pub goes_on : {t : List ℕ} {s : Walk} {v n tg n₂ : ℕ} {b k : K.Counts} {y : Option K.Counts} → Gives num t s.at (Ok (v, n)) → Counting s.counts b y → counts_of b ≡ an_entry → y ≡ Some k → Gives (below 2) t n (Ok (tg, n₂))
+    → {o w : List ℕ} {r : Walk} {answered : Result (Option ℕ) Refusal} {o' w' : List ℕ} → Refuses t s o w r answered o' w'
+goes_on {s = s} g c u f tag = record { stops = record { still = λ z. absurd (begun s g c u f tag z) }; refused = λ z. absurd (begun s g c u f tag z) }
 
 module _ {t : List ℕ} (s : Walk) {m₁ : Result (ℕ × ℕ) Refusal} (g : Gives num t s.at m₁) where
   pub entry_unplaced : {kind : ℕ} {x : Refusal} {o w : List ℕ} {r : Walk} {answered : Result (Option ℕ) Refusal} {o' w' : List ℕ} → m₁ ≡ Err x → NamesEntry kind t s o w r answered o' w'

@@ -36,11 +36,11 @@ pub record Under {A : Type 0} (P : Ground → Type 0) (t : List ℕ) (m : Reader
 
 -- WHERE THE WALK STOPS
 
--- an entry's place, then the tag of its name
+-- an entry's place, where it is counted, then the tag of its name
 unfoldable pub place_and_tag : Reader ℕ
-place_and_tag = place >>= λ p. below 2
+place_and_tag = counting (λ _. an_entry) place >>= λ p. below 2
 
--- one of them cannot be read
+-- one of them cannot be read, or there are too many entries
 abbrev pub Unread : List ℕ → Walk → Type 0
 Unread t s = Leads place_and_tag t (here s) (λ k d. ⊥)
 
