@@ -48,7 +48,8 @@ pub fn past_identifier(tree: &[u8], names: u32, at: usize) -> Result<usize, Refu
     Ok(next)
 }
 
-// An identifier and the number behind it, which may be a place.
+// An identifier and the number behind it, which may be a place. Inlined, as `bytes_and_place`.
+#[inline(always)]
 #[tactic(auto, using(crate::proofs::Parts::laws), unfolding(crate::specs::Answers::forget, crate::specs::Answers::identifier_and_number, penne::specs::Reader::ret))]
 pub fn identifier_and_number(tree: &[u8], names: u32, at: usize) -> Result<usize, Refusal>
     ensures { Ends identifier_and_number tree.now names at result }
@@ -84,7 +85,8 @@ pub fn place(tree: &[u8], at: usize) -> Result<usize, Refusal>
     past_number(tree, at)
 }
 
-// Bytes and the place behind them.
+// Bytes and the place behind them. Inlined: an import is little else, and a call hands its answer over in memory.
+#[inline(always)]
 #[tactic(auto, using(crate::proofs::Parts::laws), unfolding(crate::specs::Answers::forget, crate::specs::Answers::bytes_and_place, penne::specs::Reader::ret))]
 pub fn bytes_and_place(tree: &[u8], at: usize) -> Result<usize, Refusal>
     ensures { Skips bytes_and_place tree.now at result }

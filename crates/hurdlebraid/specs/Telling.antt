@@ -1,5 +1,5 @@
 -- What the calls of the C interface leave behind.
-use Rattle.std.specs.Prelude.{ℕ, ◌≡◌, Bool, true, false, List, [], ◌∷◌, ◌++◌, length, take, replicate}
+use Rattle.std.specs.Prelude.{ℕ, ◌≡◌, Bool, true, false, List, [], ◌∷◌, ◌++◌, length, take, replicate, get_or}
 use Rattle.penne.specs.Scoper.{Asked, told, untold, Outcome, scoped}
 use Rattle.hurdlebraid.specs.declared.Told.{Told as Told-code}
 
@@ -12,6 +12,10 @@ pub record Told : Type 0 where
 
 abbrev pub the_words : Told → List ℕ
 the_words t = t.number ∷ t.place ∷ t.first ∷ t.second ∷ []
+
+-- one of them, 0 behind the last
+unfoldable pub word_of : Told → (i : ℕ) → ℕ
+word_of t i = get_or (the_words t) i 0
 
 -- as many of these words as were lent room for, and zeros behind them
 unfoldable pub told_words : (room : ℕ) → Told → List ℕ

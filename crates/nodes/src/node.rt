@@ -3,7 +3,7 @@ ghost use Rattle.std.specs.Prelude.{false, get_or};
 ghost use Rattle.penne.specs.Tree.{expr, ref, step, signed, bits};
 ghost use Rattle.penne.specs.Reader.{listed};
 ghost use Rattle.penne.specs.Read.{option, read, rest_of, expr_of, expr_kinds, k_bad_expr, read_ty, item_of, step_of, read_unary, read_boolean, read_integer, read_array_literal, read_structural, read_parenthesized, read_deref, read_bit_cast, read_type_cast, read_length_of_array, read_size_of, read_function_call};
-ghost use Rattle.fields.specs.Answers.{Ends, Skips};
+ghost use Rattle.fields.specs.Answers.{Ends, Skips, bytes_and_place};
 ghost use Rattle.nodes.specs.Parts.{operation};
 
 use super::value_type::{carried, maybe_type, value_type};
@@ -37,7 +37,7 @@ fn expression_of(tree: &[u8], names: u32, at: usize, left: u32, kind: u32) -> Re
         1 => unary(tree, names, at, left),
         2 => boolean(tree, at),
         3 | 4 => integer(tree, names, at, left),
-        5 => bytes_and_place(tree, at), // a string
+        5 => string(tree, at),
         6 => array_literal(tree, names, at, left),
         7 => structural(tree, names, at, left),
         8 => parenthesized(tree, names, at, left),
@@ -87,6 +87,13 @@ fn integer(tree: &[u8], names: u32, at: usize, left: u32) -> Result<usize, Refus
     let at = raw(tree, at, 16)?;
     let at = place(tree, at)?;
     carried(tree, names, at, left)
+}
+
+// A string, apart: what is inlined is not to weigh on every expression.
+fn string(tree: &[u8], at: usize) -> Result<usize, Refusal>
+    ensures { Skips bytes_and_place tree.now at result }
+{
+    bytes_and_place(tree, at)
 }
 
 #[cycle(node)]
@@ -176,7 +183,8 @@ fn function_call(tree: &[u8], names: u32, at: usize, left: u32) -> Result<usize,
     expressions(tree, names, at, left)
 }
 
-// A list of expressions.
+// A list of expressions. Inlined: most are short, and a call hands its answer over in memory.
+#[inline(always)]
 #[cycle(node)]
 #[tactic(auto, using(fields::proofs::Lists::rests))]
 pub fn expressions(tree: &[u8], names: u32, at: usize, left: u32) -> Result<usize, Refusal>

@@ -97,7 +97,8 @@ pub fn maybe_type(
     }
 }
 
-// What the form calls "carried": option maybe type.
+// What the form calls "carried": option maybe type. Inlined: mostly it is the one byte of none.
+#[inline(always)]
 #[tactic(auto, using(fields::proofs::Parts::option_is))]
 pub fn carried(tree: &[u8], names: u32, at: usize, left: u32) -> Result<usize, Refusal>
     ensures { Ends (option (maybe (read_ty left false))) tree.now names at result }

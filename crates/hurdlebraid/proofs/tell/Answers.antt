@@ -1,6 +1,11 @@
-use Rattle.hurdlebraid.specs.Telling.{told_by}
-use Rattle.hurdlebraid.proofs.Telling.{words_over}
+use Rattle.hurdlebraid.proofs.Telling.{telling_start, telling_more, telling_done}
 use Rattle.hurdlebraid.proofs.tell.Goals as goal
 
+pub loop-i-init : goal.loop-i-init
+loop-i-init c = telling_start
+
+pub loop-i-preserved : goal.loop-i-preserved
+loop-i-preserved c = telling_more c.loop-i.invariant c.loop-i-test.true c.word.ensures
+
 pub returns : goal.returns
-returns c = rw (c.copy_from_slice.ensures.after, c.fill.ensures.after (λ y e. e)) (words_over _ (told_by c.args.told) c.min-count.ensures)
+returns c = telling_done c.loop-i.invariant c.loop-i-test.false
