@@ -74,7 +74,7 @@ module _ {s : List ℕ} {names : ℕ} {k : C.Counts} {cur : ℕ} where
     pub passing_done : rest ≡ 0 → NthDeclaration s names nothing at n cur
     passing_done z = p.on _ (subst (λ (j : ℕ). NthDeclaration s names (counts_of k) cur j cur) (sym z) here_is)
 
-    pub passing_never : {e : Refusal} → Passes read_decl s names k cur (Err e) → NthDeclaration s names nothing at n cur
+    pub passing_never : {r : ℕ} {e : Refusal} → Passes read_decl s names k cur (Err e) → NthDeclaration s names nothing at n r
     passing_never o = p.on _ (never_go o)
 
     pub passing_more : {rest' b : ℕ} {more : C.Counts} → rest ≡ suc rest' → Passes read_decl s names k cur (Ok (b, more)) → Passing s names at n rest' more b
@@ -131,7 +131,7 @@ title_never h = record { is = λ d g t. absurd (h d g); known = λ d g. absurd (
 abbrev kinds : ℕ → DeclKind
 kinds n = get_or decl_kinds n k_bad_decl
 
-pub title_unread : {s : List ℕ} {names at : ℕ} {e : Refusal} → Gives (below 6) s at (Err e) → Titles s names at None
+pub title_unread : {s : List ℕ} {names at : ℕ} {e : Refusal} {r : Option ℕ} → Gives (below 6) s at (Err e) → Titles s names at r
 unfolding read_decl decl_head
 title_unread {s} {names} g₁ = title_never λ d g. bind_case (counting decl_counts decl_head) (decl_of 63) s _ g.read λ kd c₁ h₁ h₂.
     never (sym (counting_no decl_counts decl_head s _ (look_is kinds 6 s _ ∙ ap (looked_up kinds) (g₁.is names g.counts))) ∙ h₁)
@@ -155,7 +155,7 @@ module _ {s : List ℕ} {names at v a : ℕ} (g₁ : Gives (below 6) s at (Ok (v
         bind_case (below 32) _ s _ (ap (λ (j : ℕ). decl_of 63 (kinds j) s (cursor a names k)) (sym z) ∙ h) λ f c₁ e₁ h₁. bind_case place _ s c₁ h₁ λ p c₂ e₂ h₂. bind_case ident _ s c₂ h₂ λ i c₃ e₃ h₃.
         bind_case (listed (read_param 63 true)) _ s c₃ h₃ λ ms c₄ e₄ h₄. bind_case (maybe (read_ty 63 false)) _ s c₄ h₄ λ t c₅ e₅ h₅. next k f p i ms t c₁ c₂ c₃ e₁ e₂ e₃ (same_value h₅)
 
-    pub title_flags : {e : Refusal} → Gives (below 32) s a (Err e) → Titles s names at None
+    pub title_flags : {e : Refusal} {r : Option ℕ} → Gives (below 32) s a (Err e) → Titles s names at r
     title_flags g₂ = title_never λ d g. structure_case g λ k f p i ms t c₁ c₂ c₃ h₁ h₂ h₃ w. never (sym (g₂.is names k) ∙ h₁)
 
     module _ {v₂ b : ℕ} (g₂ : Gives (below 32) s a (Ok (v₂, b))) where
@@ -164,7 +164,7 @@ module _ {s : List ℕ} {names at v a : ℕ} (g₁ : Gives (below 6) s at (Ok (v
       flags_case g next = structure_case g λ k f p i ms t c₁ c₂ c₃ h₁ h₂ h₃ w.
           place_num s _ (ap (place s) (same_cur (sym (g₂.is names k) ∙ h₁)) ∙ h₂) λ v h. next k f p i ms t c₂ c₃ v h h₃ w
 
-      pub title_place : {e : Refusal} → Gives num s b (Err e) → Titles s names at None
+      pub title_place : {e : Refusal} {r : Option ℕ} → Gives num s b (Err e) → Titles s names at r
       title_place g₃ = title_never λ d g. flags_case g λ k f p i ms t c₂ c₃ v h₂ h₃ w. never (sym (g₃.is names k) ∙ h₂)
 
       module _ {v₃ c : ℕ} (g₃ : Gives num s b (Ok (v₃, c))) where
@@ -173,7 +173,7 @@ module _ {s : List ℕ} {names at v a : ℕ} (g₁ : Gives (below 6) s at (Ok (v
         place_case g next = flags_case g λ k f p i ms t c₂ c₃ v h₂ h₃ w.
             ident_name s _ (ap (ident s) (same_cur (sym (g₃.is names k) ∙ h₂)) ∙ h₃) λ c₄ h. next k f p i ms t c₄ h w
 
-        pub title_name : {e : Refusal} → Reads name s names c (Err e) → Titles s names at None
+        pub title_name : {e : Refusal} {r : Option ℕ} → Reads name s names c (Err e) → Titles s names at r
         title_name g₄ = title_never λ d g. place_case g λ k f p i ms t c₃ h w. never (sym (g₄.is k) ∙ h)
 
         pub title_is : {n e : ℕ} → Reads name s names c (Ok (n, e)) → Titles s names at (Some n)

@@ -134,17 +134,17 @@ module _ {s : List ℕ} {l : Layout} {rest declared : ℕ} {k : C.Counts} {cur :
     first_case h next = many_case read_decl rest' s here_c (sym (ap (λ (j : ℕ). many read_decl j s here_c) z) ∙ h) next
 
     -- a declaration that was read once is not refused
-    never_read : {e : Refusal} → Gives (below 6) s declared (Err e) → AnsweredDepths s l (Err e)
+    never_read : {e : Refusal} {r : Result ℕ Refusal} → Gives (below 6) s declared (Err e) → AnsweredDepths s l r
     unfolding read_decl decl_head
-    never_read {e} h = record {
-      ends = g.on (Err e) λ ds c q. first_case q λ d c₁ tail h₁ h₂ w.
+    never_read {r = r} h = record {
+      ends = g.on r λ ds c q. first_case q λ d c₁ tail h₁ h₂ w.
           bind_case (counting decl_counts decl_head) (decl_of 63) s here_c h₁ λ kd c₂ h₃ h₄.
           got_never (sym (counting_no decl_counts decl_head s here_c (look_is (λ n. get_or decl_kinds n k_bad_decl) 6 s here_c ∙ ap (looked_up (λ n. get_or decl_kinds n k_bad_decl)) (h.is l.names (counts_of k)))) ∙ h₃);
     }
 
-    not_read : {e : Refusal} → Passes read_decl s l.names k declared (Err e) → AnsweredDepths s l (Err e)
+    not_read : {e : Refusal} {r : Result ℕ Refusal} → Passes read_decl s l.names k declared (Err e) → AnsweredDepths s l r
     unfolding forget
-    not_read {e} o = record { ends = g.on (Err e) λ ds c q. first_case q λ d c₁ tail h₁ h₂ w. never' (sym o.is ∙ ap forget h₁) }
+    not_read {r = r} o = record { ends = g.on r λ ds c q. first_case q λ d c₁ tail h₁ h₂ w. never' (sym o.is ∙ ap forget h₁) }
 
     module _ {v n : ℕ} (h : Gives (below 6) s declared (Ok (v, n))) where
       -- the depth of the declaration there
@@ -172,10 +172,10 @@ module _ {s : List ℕ} {l : Layout} {rest declared : ℕ} {k : C.Counts} {cur :
     one_more : rest ≡ suc (rest - 1)
     one_more = omega arith
 
-    pub again_never : {e : Refusal} → Gives (below 6) s declared (Err e) → AnsweredDepths s l (Err e)
+    pub again_never : {e : Refusal} {r : Result ℕ Refusal} → Gives (below 6) s declared (Err e) → AnsweredDepths s l r
     again_never h = never_read one_more h
 
-    pub again_not : {e : Refusal} → Passes read_decl s l.names k declared (Err e) → AnsweredDepths s l (Err e)
+    pub again_not : {e : Refusal} {r : Result ℕ Refusal} → Passes read_decl s l.names k declared (Err e) → AnsweredDepths s l r
     again_not o = not_read one_more o
 
     pub again_halt : {v n : ℕ} {e : Refusal} → Gives (below 6) s declared (Ok (v, n)) → Gives (depth_by (get_or decl_kinds v k_bad_decl)) s cur (Err e) → AnsweredDepths s l (Err e)
