@@ -1,4 +1,5 @@
 // Expressions, references and steps, which hold one another. `left` is how many levels of nesting are left.
+// `Ok(..?)` where a part's answer is handed on: as it is, it would be copied with the bytes that stand unused behind its reason, which took longer than the reading.
 ghost use Rattle.std.specs.Prelude.{false, get_or};
 ghost use Rattle.penne.specs.Tree.{expr, ref, step, signed, bits};
 ghost use Rattle.penne.specs.Reader.{listed};
@@ -23,7 +24,7 @@ pub fn expression(tree: &[u8], names: u32, at: usize, left: u32) -> Result<usize
     if left == 0 {
         return Err(Reason::TooDeep.at(at));
     }
-    expression_of(tree, names, next, left - 1, kind)
+    Ok(expression_of(tree, names, next, left - 1, kind)?)
 }
 
 // What follows an expression's kind. The kinds are the form's own numbers, each beside its reader, so that all are seen at a glance.
@@ -59,7 +60,7 @@ pub fn operation(tree: &[u8], names: u32, at: usize, left: u32) -> Result<usize,
 {
     let first = operator(tree, at)?;
     let second = expression(tree, names, first, left)?;
-    expression(tree, names, second, left)
+    Ok(expression(tree, names, second, left)?)
 }
 
 #[cycle(node)]
@@ -68,7 +69,7 @@ fn unary(tree: &[u8], names: u32, at: usize, left: u32) -> Result<usize, Refusal
     ensures { Ends (read_unary (read left)) tree.now names at result }
 {
     let at = operator(tree, at)?;
-    expression(tree, names, at, left)
+    Ok(expression(tree, names, at, left)?)
 }
 
 #[tactic(auto, using(fields::proofs::Parts::laws), unfolding(fields::specs::Answers::forget, penne::specs::Read::read_boolean, penne::specs::Reader::ret))]
@@ -86,7 +87,7 @@ fn integer(tree: &[u8], names: u32, at: usize, left: u32) -> Result<usize, Refus
 {
     let at = raw(tree, at, 16)?;
     let at = place(tree, at)?;
-    carried(tree, names, at, left)
+    Ok(carried(tree, names, at, left)?)
 }
 
 // A string, apart: what is inlined is not to weigh on every expression.
@@ -114,7 +115,7 @@ fn structural(tree: &[u8], names: u32, at: usize, left: u32) -> Result<usize, Re
 {
     let at = place(tree, at)?;
     let at = items(tree, names, at, left)?;
-    maybe_type(tree, names, false, at, left)
+    Ok(maybe_type(tree, names, false, at, left)?)
 }
 
 #[cycle(node)]
@@ -123,7 +124,7 @@ fn parenthesized(tree: &[u8], names: u32, at: usize, left: u32) -> Result<usize,
     ensures { Ends (read_parenthesized (read left)) tree.now names at result }
 {
     let at = place(tree, at)?;
-    expression(tree, names, at, left)
+    Ok(expression(tree, names, at, left)?)
 }
 
 #[cycle(node)]
@@ -132,7 +133,7 @@ fn deref(tree: &[u8], names: u32, at: usize, left: u32) -> Result<usize, Refusal
     ensures { Ends (read_deref (read left) (read_ty left false)) tree.now names at result }
 {
     let at = carried(tree, names, at, left)?;
-    reference(tree, names, at, left)
+    Ok(reference(tree, names, at, left)?)
 }
 
 #[cycle(node)]
@@ -142,7 +143,7 @@ fn bit_cast(tree: &[u8], names: u32, at: usize, left: u32) -> Result<usize, Refu
 {
     let at = two_places(tree, at)?;
     let at = carried(tree, names, at, left)?;
-    expression(tree, names, at, left)
+    Ok(expression(tree, names, at, left)?)
 }
 
 #[cycle(node)]
@@ -152,7 +153,7 @@ fn type_cast(tree: &[u8], names: u32, at: usize, left: u32) -> Result<usize, Ref
 {
     let at = two_places(tree, at)?;
     let at = value_type(tree, names, false, at, left)?;
-    expression(tree, names, at, left)
+    Ok(expression(tree, names, at, left)?)
 }
 
 #[cycle(node)]
@@ -161,7 +162,7 @@ fn length_of_array(tree: &[u8], names: u32, at: usize, left: u32) -> Result<usiz
     ensures { Ends (read_length_of_array (read left)) tree.now names at result }
 {
     let at = place(tree, at)?;
-    reference(tree, names, at, left)
+    Ok(reference(tree, names, at, left)?)
 }
 
 #[tactic(auto, using(fields::proofs::Parts::laws), unfolding(fields::specs::Answers::forget, penne::specs::Read::read_size_of, penne::specs::Reader::ret))]
@@ -169,7 +170,7 @@ fn size_of(tree: &[u8], names: u32, at: usize, left: u32) -> Result<usize, Refus
     ensures { Ends (read_size_of (read_ty left false)) tree.now names at result }
 {
     let at = place(tree, at)?;
-    value_type(tree, names, false, at, left)
+    Ok(value_type(tree, names, false, at, left)?)
 }
 
 #[cycle(node)]
@@ -217,7 +218,7 @@ fn item(tree: &[u8], names: u32, at: usize, left: u32) -> Result<usize, Refusal>
 {
     let at = maybe_identifier(tree, names, at)?;
     let at = past_number(tree, at)?;
-    expression(tree, names, at, left)
+    Ok(expression(tree, names, at, left)?)
 }
 
 #[cycle(node)]
@@ -231,7 +232,7 @@ pub fn reference(tree: &[u8], names: u32, at: usize, left: u32) -> Result<usize,
     }
     let at = two_places(tree, next)?;
     let at = maybe_identifier(tree, names, at)?;
-    steps(tree, names, at, left - 1)
+    Ok(steps(tree, names, at, left - 1)?)
 }
 
 #[cycle(node)]
@@ -257,9 +258,9 @@ fn step(tree: &[u8], names: u32, at: usize, left: u32) -> Result<usize, Refusal>
         return Err(Reason::TooDeep.at(at));
     }
     if kind == 0 {
-        element(tree, names, next, left - 1)
+        Ok(element(tree, names, next, left - 1)?)
     } else {
-        identifier_and_number(tree, names, next)
+        Ok(identifier_and_number(tree, names, next)?)
     }
 }
 
@@ -269,7 +270,7 @@ fn element(tree: &[u8], names: u32, at: usize, left: u32) -> Result<usize, Refus
     ensures { Ends (step_of (read left) 0) tree.now names at result }
 {
     let (_, at) = below(tree, 3, at)?;
-    expression(tree, names, at, left)
+    Ok(expression(tree, names, at, left)?)
 }
 
 #[tactic(auto, using(fields::proofs::Parts::option_is))]
@@ -280,6 +281,6 @@ pub fn option_expression(tree: &[u8], names: u32, at: usize, left: u32) -> Resul
     if tag == 0 {
         Ok(at)
     } else {
-        expression(tree, names, at, left)
+        Ok(expression(tree, names, at, left)?)
     }
 }

@@ -1,4 +1,4 @@
-// Types. `own` is set in a constant's or member's own type, as far as kinds 14 to 19 reach: there kind 23 is refused.
+// Types. `own` is set in a constant's or member's own type, as far as kinds 14 to 19 reach: there kind 23 is refused. A part's answer is handed on as in `node`.
 // `left` is how many levels of nesting are left.
 ghost use Rattle.std.specs.Prelude.{false, get_or};
 ghost use Rattle.penne.specs.Read.{read_ty, ty_of, ty_kinds, k_plain, k_array, k_named_length, maybe, option};
@@ -27,7 +27,7 @@ pub fn value_type(
     if own && kind == 23 {
         return Err(Reason::NamelessType.at(at));
     }
-    type_of(tree, names, own, next, left - 1, kind)
+    Ok(type_of(tree, names, own, next, left - 1, kind)?)
 }
 
 // What follows a type's kind. The kinds are the form's own numbers, each beside its reader, so that all are seen at a glance.
@@ -45,12 +45,12 @@ fn type_of(
 {
     match kind {
         0..=13 => Ok(at),
-        14 => array(tree, names, own, at, left),
-        15 => array_with_named_length(tree, names, own, at, left),
-        16..=19 => value_type(tree, names, own, at, left),
-        20 | 22 => past_identifier(tree, names, at),
+        14 => Ok(array(tree, names, own, at, left)?),
+        15 => Ok(array_with_named_length(tree, names, own, at, left)?),
+        16..=19 => Ok(value_type(tree, names, own, at, left)?),
+        20 | 22 => Ok(past_identifier(tree, names, at)?),
         21 => identifier_and_number(tree, names, at), // a word
-        24 | 25 => value_type(tree, names, false, at, left),
+        24 | 25 => Ok(value_type(tree, names, false, at, left)?),
         _ => Ok(at),
     }
 }
@@ -76,7 +76,7 @@ fn array_with_named_length(
     ensures { Ends (ty_of (read_ty left own) (read_ty left false) 15 k_named_length) tree.now names at result }
 {
     let at = value_type(tree, names, own, at, left)?;
-    past_identifier(tree, names, at)
+    Ok(past_identifier(tree, names, at)?)
 }
 
 #[tactic(auto, using(fields::proofs::Parts::maybe_is))]
@@ -91,9 +91,9 @@ pub fn maybe_type(
 {
     let (tag, at) = below(tree, 2, at)?;
     if tag == 0 {
-        value_type(tree, names, own, at, left)
+        Ok(value_type(tree, names, own, at, left)?)
     } else {
-        poison(tree, names, at)
+        Ok(poison(tree, names, at)?)
     }
 }
 
@@ -107,6 +107,6 @@ pub fn carried(tree: &[u8], names: u32, at: usize, left: u32) -> Result<usize, R
     if tag == 0 {
         Ok(at)
     } else {
-        maybe_type(tree, names, false, at, left)
+        Ok(maybe_type(tree, names, false, at, left)?)
     }
 }
